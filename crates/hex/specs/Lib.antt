@@ -1,0 +1,3 @@
+pub mod Small
+pub mod Text
+pub mod Decoded

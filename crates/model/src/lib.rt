@@ -1,0 +1,4 @@
+pub mod decision;
+pub mod item;
+pub mod refusal;
+pub mod theorems;

@@ -1,0 +1,5 @@
+pub mod Refused
+pub mod Tables
+pub mod Held
+pub mod Answered
+pub mod Place

@@ -1,0 +1,3 @@
+pub mod elements;
+pub mod index;
+pub mod references;

@@ -1,0 +1,4 @@
+pub mod Clipped
+pub mod Exits
+pub mod Fields
+pub mod Left
