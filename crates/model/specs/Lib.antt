@@ -4,4 +4,16 @@ pub mod Refused
 pub mod Order
 pub mod Content
 pub mod Spelling
+pub mod Values
+pub mod Lists
+pub mod Tree
+pub mod TreeFiles
+pub mod Points
+pub mod PointFiles
+pub mod Rows
+pub mod Meaning
+pub mod Agreement
+pub mod Total
+pub mod Law
+pub mod Conversation
 pub mod Cases

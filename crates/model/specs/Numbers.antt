@@ -8,6 +8,8 @@ use Rattle.model.specs.declared.decision.Cause.{Cause}
 use Rattle.model.specs.declared.decision.Cause.the-variants.{UnknownTag, SeveralScopes, BadScope, NoSingleResourceId, UnknownNode}
 use Rattle.model.specs.declared.refusal.Defect.{Defect}
 use Rattle.model.specs.declared.refusal.Defect.the-variants.{EndsEarly, UnnamedBit, OutOfRange, BytesLeft, TagRepeated, NameRepeated, NoSuchNode, EmptySegment}
+use Rattle.model.specs.declared.call.CallRefusal.{CallRefusal}
+use Rattle.model.specs.declared.call.CallRefusal.the-variants.{Ended, RowsLeft, NoVerdict, TooShort, FaultRow}
 
 abbrev pub decision-number : Decision → ℕ
 decision-number Permit = 0
@@ -37,3 +39,10 @@ defect-number TagRepeated = 15
 defect-number NameRepeated = 16
 defect-number NoSuchNode = 17
 defect-number EmptySegment = 18
+
+abbrev pub call-refusal-number : CallRefusal → ℕ
+call-refusal-number Ended = 31
+call-refusal-number RowsLeft = 32
+call-refusal-number NoVerdict = 33
+call-refusal-number (TooShort needed) = 34
+call-refusal-number FaultRow = 35

@@ -1,3 +1,4 @@
+pub mod call;
 pub mod decision;
 pub mod item;
 pub mod refusal;
