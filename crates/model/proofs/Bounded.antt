@@ -1,4 +1,5 @@
 -- The number of rows is the sum over references and choices, and at most 16 × 324 × 1,024. Assumes nothing.
+-- The choices of a reference number the product of its categories' widths, which add up to at most 16; that no such product exceeds 324 is one finite test.
 use mathlib.Core.Path.{_≡_, refl, sym, ap, ap₂, _∙_}
 use mathlib.Core.Logic.{⊎-elim}
 use mathlib.Core.Bool.{Bool, true, false, cond, _&&_, _||_}
@@ -11,7 +12,6 @@ use lib.Dec.{eqb, leb, ltb}
 use Rattle.std.specs.declared.option.Option.{Option}
 use Rattle.std.specs.declared.option.Option.the-variants.{Some, None}
 use Rattle.std.proofs.shelf.Tests.{or-cases, and-parts, eqb-true, ne-eqb, cases-lt, leb-true, ltb-true}
-use Rattle.model.specs.Layout.{bytes}
 use Rattle.model.specs.Order.{Sorted}
 use Rattle.model.specs.Content.{Request}
 use Rattle.model.specs.Spelling.{If-some, References-fit, Request-fits}

@@ -12,7 +12,7 @@ use Rattle.std.proofs.shelf.Tests.{eqb-true, eqb-false, eq-eqb, cases-bool}
 use Rattle.model.specs.Order.{Sorted}
 use Rattle.model.specs.Content.{Element, Request}
 use Rattle.model.specs.Lists.{At, Pairwise}
-use Rattle.model.specs.Rows.{Listed, category-of, categories, width, widths, taken, chosen, lists}
+use Rattle.model.specs.Rows.{Listed, category-of, categories, width, widths, taken, chosen}
 use Rattle.model.specs.Meaning.{Lists, Listed-at, Has, First, Categories, Earlier, Nth, Choice, Chosen, Chooses}
 use Rattle.model.proofs.Members.{sorted-map, mem-keep, of-keep, sorted-keep, all-in}
 use Rattle.model.proofs.Positions.{at-same, at-mem, mem-at, at-below, below-at, at-map, of-at-map, pairwise-at, pairwise-same, pairwise-maps, sorted-at, sorted-from, same-sorted}

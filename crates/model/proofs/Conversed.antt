@@ -1,4 +1,6 @@
 -- Every conversation holds. Assumes nothing.
+-- After any calls, what was handed out is the first k computed rows (Runs); these are the request's first rows by the relations, and the computed one at k
+-- is the next (Ordered); so each computed reply is one that may be told, where a shown single request has one row again (Fits, Again).
 use mathlib.Core.Path.{_≡_, refl, sym, ap, subst, _∙_}
 use mathlib.Core.Logic.{⊎-elim}
 use mathlib.Core.Bool.{Bool, true, false, cond}
@@ -12,7 +14,6 @@ use Rattle.std.specs.declared.option.Option.the-variants.{Some}
 use Rattle.std.proofs.shelf.Lists.{take-all}
 use Rattle.std.proofs.shelf.Tests.{cases-lt, ltb-true, ltb-false}
 use Rattle.model.specs.declared.call.CallRefusal.the-variants.{TooShort}
-use Rattle.model.specs.Layout.{bytes}
 use Rattle.model.specs.Content.{Request}
 use Rattle.model.specs.Spelling.{Request-fits}
 use Rattle.model.specs.Lists.{nth}

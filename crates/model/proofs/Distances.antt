@@ -44,7 +44,7 @@ module _ (tree : Tree) (a : ℕ) where
       let r = f (s .0) (b .1) in
       (suc (r .0), omega arith, Path.more (r .2) (b .0))
 
-  path-of-near : (k n : ℕ) → near tree a k n ≡ true → (j : ℕ) × (j ≤ k) × Path tree a n j
+  pub path-of-near : (k n : ℕ) → near tree a k n ≡ true → (j : ℕ) × (j ≤ k) × Path tree a n j
   path-of-near zero n e = (0, omega arith, subst (λ m. Path tree a m 0) (sym (eqb-true n a e)) Path.stay)
   path-of-near (suc k) n e = longer k n (path-of-near k) (or-cases (near tree a k n) (next k n) e)
 
@@ -77,7 +77,7 @@ module _ (tree : Tree) (a : ℕ) where
       (s .0, l, one-back k n (s .0) l f (b .1) (b .0))
 
   -- before a level that has a node, each has one
-  level-before : (k n : ℕ) → at-distance tree a (suc k) n ≡ true → (m : ℕ) × (m < count tree) × (at-distance tree a k m ≡ true)
+  pub level-before : (k n : ℕ) → at-distance tree a (suc k) n ≡ true → (m : ℕ) × (m < count tree) × (at-distance tree a k m ≡ true)
   level-before k n e =
       let b = and-parts (near tree a (suc k) n) (not (near tree a k n)) e in
       from-link k n (not-true (near tree a k n) (b .1)) (or-cases (near tree a k n) (next k n) (b .0))
@@ -135,7 +135,7 @@ module _ (tree : Tree) (a : ℕ) where
   -- THE RELATION AND THE TEST
 
   module _ (limits : Limits tree) where
-    near-of-path : (k n : ℕ) → Path tree a n k → near tree a k n ≡ true
+    pub near-of-path : (k n : ℕ) → Path tree a n k → near tree a k n ≡ true
     near-of-path k n Path.stay = eq-eqb a a refl
     near-of-path k n (Path.more {m} {d} p e) =
         or-right (near tree a d n) (next d n) (some-any (last-link d n) m (nodes tree) (mem-nodes tree m (limits .between-nodes m n e .0))

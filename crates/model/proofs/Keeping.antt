@@ -12,7 +12,6 @@ use Rattle.std.proofs.shelf.Lists.{length-push}
 use Rattle.std.proofs.shelf.Tests.{and-parts, leb-true}
 use Rattle.model.specs.Layout.{Refusal, Reading, Reader, on, _>>=_, refuse, end, outcome, more, many, file, code, flags, text, wide, got, refused}
 use Rattle.model.specs.Spelling.{Between, spell-text}
-use Rattle.model.specs.Rows.{taken, named}
 use Rattle.model.proofs.Giving.{Taken, Gives, gives-give, gives-weaker, gives-bind, gives-code, gives-flags, gives-text}
 
 -- of every value that the reader gives, P holds

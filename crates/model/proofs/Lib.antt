@@ -30,3 +30,4 @@ pub mod Verdicts
 pub mod Conversed
 pub mod Settled
 pub mod Bounded
+pub mod TreeSpelled

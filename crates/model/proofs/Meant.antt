@@ -13,7 +13,7 @@ use Rattle.model.specs.Content.{Request}
 use Rattle.model.specs.Spelling.{Other-tag}
 use Rattle.model.specs.Tree.{Tree, Limits}
 use Rattle.model.specs.Points.{Point}
-use Rattle.model.specs.Rows.{carries, Basis, Spot, Row, fault-status, decided, cause-of, row-of, fault, single}
+use Rattle.model.specs.Rows.{Basis, Spot, Row, fault-status, decided, cause-of, row-of, fault, single}
 use Rattle.model.specs.Meaning.{Stand, Carries, Row-of}
 use Rattle.model.proofs.SpotOf.{Spot-of, stand-of}
 use Rattle.model.proofs.Stands.{stands-of, Spotted, spotted}

@@ -1,4 +1,5 @@
 -- The rows handed out are the first of the request's, and which row comes next. Assumes nothing.
+-- The computed spots, each with its distance, stand in order and are all of the request's (Spots), and their rows are the related ones (Meant).
 use mathlib.Core.Path.{_≡_, refl, sym, ap, subst, _∙_}
 use mathlib.Core.Logic.{_⊎_, inl, inr, ⊎-elim}
 use mathlib.Core.List.{List, map, List·Memᴰ, Memᴰ·map, Memᴰ·of-map}
@@ -6,7 +7,6 @@ use Prim.Native.Nat.{ℕ, _<_, _≤_}
 use native.Mathlib.Omega.{arith}
 use lib.ListN.{length, take, length-map}
 use Rattle.std.proofs.shelf.Lists.{take-map, take-all, length-take-le}
-use Rattle.model.specs.Layout.{bytes}
 use Rattle.model.specs.Order.{Sorted}
 use Rattle.model.specs.Content.{Request}
 use Rattle.model.specs.Spelling.{Other-tag}

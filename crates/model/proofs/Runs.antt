@@ -7,7 +7,6 @@ use native.Mathlib.Numerals.{add-one}
 use native.Mathlib.Omega.{arith}
 use lib.ListN.{length, take}
 use Rattle.std.proofs.shelf.Tests.{cases-lt, lt-ltb, le-ltb}
-use Rattle.model.specs.Layout.{within}
 use Rattle.model.specs.Content.{Request}
 use Rattle.model.specs.Tree.{Tree}
 use Rattle.model.specs.Points.{Point}

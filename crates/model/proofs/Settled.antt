@@ -1,4 +1,5 @@
 -- What is told settles the answer. Assumes nothing.
+-- The next row is unique, since Before holds one way round at most, and what it rests on is settled by the row; so two answers cannot both be right.
 use mathlib.Core.Path.{_≡_, refl, sym, ap, subst, _∙_}
 use mathlib.Core.Logic.{_⊎_, inl, inr, ⊎-elim}
 use mathlib.Core.List.{List, [], _∷_, _++_, List·Memᴰ, List·Memᴰ·not-nil, List·Memᴰ·cases-cons, head-eq-of-cons-eq, tail-eq-of-cons-eq}
@@ -8,7 +9,6 @@ use lib.ListN.{length, drop}
 use Rattle.std.proofs.shelf.Tests.{both-ways}
 use Rattle.model.specs.declared.decision.Cause.{Cause}
 use Rattle.model.specs.declared.call.CallRefusal.the-variants.{TooShort}
-use Rattle.model.specs.Layout.{bytes}
 use Rattle.model.specs.Order.{Sorted}
 use Rattle.model.specs.Content.{Element, Request}
 use Rattle.model.specs.Spelling.{Other-tag}

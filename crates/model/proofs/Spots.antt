@@ -1,4 +1,5 @@
 -- The spots of a request, each with its distance: in order, each one of the request's, and all of them. Assumes nothing.
+-- "Of the request's" is here the relation Spot-of, over the functions of Rows; Stands takes it on to the relations of Meaning.
 use mathlib.Core.Path.{_≡_, refl, sym, ap, ap₂, subst, _∙_}
 use mathlib.Core.Logic.{inl, inr, ⊎-elim}
 use mathlib.Core.List.{List, [], _∷_, _++_, map, List·Memᴰ, List·Memᴰ·head, List·Memᴰ·not-nil, Memᴰ·append-left, Memᴰ·append-right, List·Memᴰ·append-cases, Memᴰ·map, Memᴰ·of-map, List·Memᴰ·eq-of-singleton}

@@ -9,7 +9,6 @@ use Rattle.std.specs.declared.option.Option.{Option}
 use Rattle.std.specs.declared.option.Option.the-variants.{Some, None}
 use Rattle.std.proofs.shelf.Tests.{eqb-true, eq-eqb}
 use Rattle.model.specs.declared.decision.Cause.the-variants.{UnknownTag}
-use Rattle.model.specs.Layout.{within}
 use Rattle.model.specs.Order.{Sorted}
 use Rattle.model.specs.Content.{Element, Request}
 use Rattle.model.specs.Spelling.{Other-tag}

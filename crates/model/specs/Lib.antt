@@ -8,6 +8,7 @@ pub mod Values
 pub mod Lists
 pub mod Tree
 pub mod TreeFiles
+pub mod TreeSpelling
 pub mod Points
 pub mod PointFiles
 pub mod Rows

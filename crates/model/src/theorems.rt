@@ -1,6 +1,7 @@
 ghost use Rattle.model.specs.Cases.{All-hold};
 ghost use Rattle.model.specs.Spelling.{Accepted-exactly};
 ghost use Rattle.model.specs.TreeFiles.{Tree-files-keep-limits};
+ghost use Rattle.model.specs.TreeSpelling.{Trees-accepted-exactly};
 ghost use Rattle.model.specs.PointFiles.{Point-files-fit};
 ghost use Rattle.model.specs.Agreement.{Rows-agree};
 ghost use Rattle.model.specs.Total.{Rows-bounded};
@@ -16,6 +17,13 @@ pub fn worked_cases_hold() -> u8
 // Bytes are accepted as a request exactly where they are the spelling of a well-formed one, which is the one read.
 pub fn accepted_bytes_are_spellings() -> u8
     ensures { λ _. ⌜ Accepted-exactly ⌝ }
+{
+    0
+}
+
+// Bytes are accepted as a linked tree, or as a path tree, exactly where they are the spelling of a well-formed one, which is the one read.
+pub fn accepted_trees_are_spellings() -> u8
+    ensures { λ _. ⌜ Trees-accepted-exactly ⌝ }
 {
     0
 }

@@ -16,7 +16,7 @@ use Rattle.wire.specs.Span.{part}
 use Rattle.request.specs.declared.content.Attribute.{Attribute}
 use Rattle.request.specs.declared.content.Element.{Element}
 use Rattle.request.specs.Held.{attributesOf, elementOf, elementsOf, element-at, elements-in, tags-held, tags-at, references-in}
-use Rattle.request.specs.Tables.{added, Grows, span-end, reach, element-span, whole-span}
+use Rattle.request.specs.Tables.{added, Grows, span-end, reach, longest, element-span, whole-span}
 
 module _ {X : Type 0} where
   pub added-none : (v : Vec X Global) → added v v ≡ []
@@ -108,3 +108,18 @@ pub references-none : (l : Vec Span Global) (t : Vec ℕ Global) → vec-len l �
 references-none l t e =
     let z : length (l .items) ≡ 0 = omega (arith, l .ok .0) in
     ap (list.map (part (t .items))) (nil-from-length (l .items) z)
+
+longest-last : (ss : List Span) (s : Span) → longest ss ≤ 16 → s .count ≤ 16 → longest (ss ++ s ∷ []) ≤ 16
+longest-last [] s h k = omega arith
+longest-last (r ∷ ss) s h k =
+    let a : longest ss ≤ 16 = omega arith in
+    let b = longest-last ss s a k in
+    omega arith
+
+pub longest-push : (l w : Vec Span Global) (s : Span) → longest (vec-items l) ≤ 16 → s .count ≤ 16 → vec-items w ≡ vec-items l ++ s ∷ [] → longest (vec-items w) ≤ 16
+longest-push l w s h k e = subst (λ ss. longest ss ≤ 16) (sym e) (longest-last (l .items) s h k)
+
+pub longest-none : (l : Vec Span Global) → vec-len l ≡ 0 → longest (vec-items l) ≤ 16
+longest-none l e =
+    let z : length (l .items) ≡ 0 = omega (arith, l .ok .0) in
+    subst (λ ss. longest ss ≤ 16) (sym (nil-from-length (l .items) z)) (omega arith)

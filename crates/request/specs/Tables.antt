@@ -29,6 +29,11 @@ abbrev pub reach : {X : Type 0} → (X → Span) → List X → ℕ
 reach span [] = 0
 reach span (x ∷ xs) = max (span-end (span x)) (reach span xs)
 
+-- how many items the longest span names
+abbrev pub longest : List Span → ℕ
+longest [] = 0
+longest (s ∷ ss) = max (s .count) (longest ss)
+
 abbrev pub element-span : Element → Span
 element-span e = e .attributes
 

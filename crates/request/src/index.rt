@@ -1,5 +1,6 @@
 ghost use Prim.Native.Nat.{_≤_};
-ghost use Rattle.std.specs.Of.Vec.{vec-cap};
+ghost use Rattle.std.specs.Of.Vec.{vec-items, vec-len, vec-cap};
+ghost use Rattle.request.specs.Tables.{longest};
 use crate::content::Attribute;
 use crate::content::Element;
 use wire::span::Span;
@@ -18,4 +19,7 @@ pub struct Index {
     ghost attribute_room: { 128 ≤ vec-cap attributes },
     ghost reference_room: { 16 ≤ vec-cap references },
     ghost tag_room: { 256 ≤ vec-cap tags },
+    // No request lists more than this many elements, and no reference more tags.
+    ghost few_elements: { vec-len elements ≤ 16 },
+    ghost few_tags: { longest (vec-items references) ≤ 16 },
 }

@@ -53,6 +53,13 @@ impl<'a> Request<'a> {
         Ok(())
     }
 
+    // The bytes that were opened last; none before.
+    pub fn bytes(&self) -> &'a [u8]
+        ensures { λ r. ⌜ now r ≡ bytes-of (now (self .entry)) ⌝ }
+    {
+        self.bytes
+    }
+
     // Whether a verdict is asked for.
     pub fn combined(&self) -> bool
         ensures { λ r. ⌜ r ≡ contentOf (now (self .entry)) .combined ⌝ }

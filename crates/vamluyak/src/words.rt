@@ -1,6 +1,9 @@
+use model::decision::Decision;
+use model::decision::Status;
 use model::item::Item;
 use model::item::Kind;
 use model::refusal::Defect;
+use rule_policy::rule::Effect;
 use std::fmt;
 
 pub(crate) fn category(code: u8) -> &'static str {
@@ -76,5 +79,30 @@ pub impl fmt::Display for Around as AroundDisplay {
             write!(f, " {word} {number}")?;
         }
         Ok(())
+    }
+}
+
+pub(crate) fn effect(effect: Effect) -> &'static str {
+    match effect {
+        Effect::Permit => "Permit",
+        Effect::Deny => "Deny",
+    }
+}
+
+pub(crate) fn decision(decision: Decision) -> &'static str {
+    match decision {
+        Decision::Permit => "Permit",
+        Decision::Deny => "Deny",
+        Decision::Indeterminate => "Indeterminate",
+        Decision::NotApplicable => "NotApplicable",
+    }
+}
+
+pub(crate) fn status(status: Status) -> &'static str {
+    match status {
+        Status::Ok => "ok",
+        Status::SyntaxError => "syntax-error",
+        Status::MissingAttribute => "missing-attribute",
+        Status::ProcessingError => "processing-error",
     }
 }

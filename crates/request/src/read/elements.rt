@@ -176,6 +176,7 @@ pub(crate) fn read_elements(
     requires room { ⌜ (16 ≤ vec-cap (now list)) × (128 ≤ vec-cap (now table)) ⌝ }
     ensures read { λ r. ⌜ Told in-request-fault (always (elements-in (now (bytes .entry)) (now (list .exit)) (now (table .exit)))) r (now (bytes .entry)) (now (place .exit)) (from (now (bytes .entry)) (now (place .entry)) element-list) ⌝ }
     ensures room { λ r. ⌜ (vec-cap (now (list .exit)) ≡ vec-cap (now (list .entry))) × (vec-cap (now (table .exit)) ≡ vec-cap (now (table .entry))) ⌝ }
+    ensures few { λ r. ⌜ vec-len (now (list .exit)) ≤ 16 ⌝ }
 {
     let count = field::code(bytes, place, 1, 16)?;
     for number in 0..count {

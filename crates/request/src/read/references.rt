@@ -1,6 +1,6 @@
 ghost use mathlib.Core.Path.{_≡_};
 ghost use Prim.Native.Nat.{_+_, _≤_};
-ghost use Rattle.std.specs.Of.Vec.{vec-len, vec-cap};
+ghost use Rattle.std.specs.Of.Vec.{vec-items, vec-len, vec-cap};
 ghost use Rattle.std.specs.Vec.{made};
 ghost use Rattle.model.specs.declared.item.Kind.the-variants as kind;
 ghost use Rattle.model.specs.Layout.{within};
@@ -8,7 +8,7 @@ ghost use Rattle.model.specs.Content.{reference-fields, reference-list};
 ghost use Rattle.wire.specs.Told.{Told, from, in-field, always};
 ghost use Rattle.request.specs.Held.{tags-at, references-in};
 ghost use Rattle.request.specs.Refused.{in-reference-fault, in-request-fault};
-ghost use Rattle.request.specs.Tables.{Grows, span-end};
+ghost use Rattle.request.specs.Tables.{Grows, span-end, longest};
 use crate::fault::ReferenceFault;
 use crate::fault::RequestFault;
 use crate::fault::RequestFaultFromFault;
@@ -22,6 +22,7 @@ fn read_reference(bytes: &[u8], place: &mut usize, table: &mut Vec<u8>) -> Resul
     ensures read { λ r. ⌜ Told in-field (tags-at (now (table .exit))) r (now (bytes .entry)) (now (place .exit)) (from (now (bytes .entry)) (now (place .entry)) reference-fields) ⌝ }
     ensures grows { λ r. ⌜ Grows 16 (now (table .entry)) (now (table .exit)) ⌝ }
     ensures inside { λ r. ⌜ made r (λ s. span-end s ≤ vec-len (now (table .exit))) ⌝ }
+    ensures few { λ r. ⌜ made r (λ s. s .count ≤ 16) ⌝ }
 {
     let first = table.len();
     let count = field::code(bytes, place, 1, 16)?;
@@ -45,6 +46,7 @@ fn numbered_reference(
     ensures read { λ r. ⌜ Told in-reference-fault (tags-at (now (table .exit))) r (now (bytes .entry)) (now (place .exit)) (from (now (bytes .entry)) (now (place .entry)) (within kind.Reference number reference-fields)) ⌝ }
     ensures grows { λ r. ⌜ Grows 16 (now (table .entry)) (now (table .exit)) ⌝ }
     ensures inside { λ r. ⌜ made r (λ s. span-end s ≤ vec-len (now (table .exit))) ⌝ }
+    ensures few { λ r. ⌜ made r (λ s. s .count ≤ 16) ⌝ }
 {
     match read_reference(bytes, place, table) {
         Ok(span) => Ok(span),
@@ -62,6 +64,7 @@ pub(crate) fn read_references(
     requires room { ⌜ (16 ≤ vec-cap (now list)) × (256 ≤ vec-cap (now table)) ⌝ }
     ensures read { λ r. ⌜ Told in-request-fault (always (references-in (now (list .exit)) (now (table .exit)))) r (now (bytes .entry)) (now (place .exit)) (from (now (bytes .entry)) (now (place .entry)) reference-list) ⌝ }
     ensures room { λ r. ⌜ (vec-cap (now (list .exit)) ≡ vec-cap (now (list .entry))) × (vec-cap (now (table .exit)) ≡ vec-cap (now (table .entry))) ⌝ }
+    ensures few { λ r. ⌜ longest (vec-items (now (list .exit))) ≤ 16 ⌝ }
 {
     let count = field::code(bytes, place, 1, 16)?;
     for number in 0..count {

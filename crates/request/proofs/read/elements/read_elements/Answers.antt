@@ -20,6 +20,7 @@ returns-in-Break-count c =
     record {
       read = told-refused in-request-fault (always (elements-in (c .args .bytes .now) (c .args .list .now) (c .args .table .now))) (Field (c .in-Break-count .field-0 .0)) (c .args .bytes .now) (c .code .last .place) _ (c .from-residual .result) (c .from-residual .ensures .1) (search (needs, e));
       room = (refl, refl);
+      few = omega arith;
     }
 
 pub loop-number-holds : need.loop-number-holds
@@ -33,6 +34,7 @@ returns-in-Break-element c =
     record {
       read = told-refused in-request-fault (always (elements-in (c .args .bytes .now) (c .loop-number .list) (c .numbered-element .last .table))) (Element (c .in-Break-element .field-0 .0)) (c .args .bytes .now) (c .numbered-element .last .place) _ (c .from-residual-in-Break-element .result) (c .from-residual-in-Break-element .ensures .1) (search (needs, one-less, e, t, v));
       room = search needs;
+      few = omega (arith, c .in-Continue-count .ensures tt .high);
     }
 
 pub loop-number-again : need.loop-number-again

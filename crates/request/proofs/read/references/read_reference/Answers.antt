@@ -12,7 +12,7 @@ use Rattle.request.proofs.read.references.read_reference.Needs as need
 pub returns-in-Break-count : need.returns-in-Break-count
 returns-in-Break-count c =
     let e = c .in-Break-count .ensures tt .read in
-    record { read = told-refused in-field (tags-at (c .args .table .now)) (c .in-Break-count .field-0 .0) (c .args .bytes .now) (c .code .last .place) _ (c .from-residual .result) (c .from-residual .ensures .1) (search (needs, e)); grows = grows-none 16 (c .args .table .now); inside = made-from-err _ _ (c .from-residual .ensures .0) }
+    record { read = told-refused in-field (tags-at (c .args .table .now)) (c .in-Break-count .field-0 .0) (c .args .bytes .now) (c .code .last .place) _ (c .from-residual .result) (c .from-residual .ensures .1) (search (needs, e)); grows = grows-none 16 (c .args .table .now); inside = made-from-err _ _ (c .from-residual .ensures .0); few = made-from-err _ _ (c .from-residual .ensures .0) }
 
 pub loop-number-holds : need.loop-number-holds
 loop-number-holds c = let e = added-none (c .args .table .now) in (search (needs, e), grows-none 0 (c .args .table .now), omega arith)

@@ -6,7 +6,7 @@ use Rattle.wire.proofs.Left.{Left}
 use Rattle.model.specs.Layout.{many}
 use Rattle.wire.specs.Told.{from}
 use Rattle.model.specs.Content.{one-reference}
-use Rattle.request.specs.Tables.{reach, whole-span}
+use Rattle.request.specs.Tables.{reach, whole-span, longest}
 use Rattle.request.specs.Held.{references-in}
 
 abbrev pub Inv-loop-number : given.InvT-loop-number
@@ -18,3 +18,4 @@ Inv-loop-number l =
     × (reach whole-span (vec-items (l .list)) ≤ vec-len (l .table))
     × (vec-cap (l .list) ≡ vec-cap (l .entry .list))
     × (vec-cap (l .table) ≡ vec-cap (l .entry .table))
+    × (longest (vec-items (l .list)) ≤ 16)

@@ -1,0 +1,6 @@
+pub mod Few
+pub mod Listed
+pub mod Categories
+pub mod Choice
+pub mod Asked
+pub mod Put

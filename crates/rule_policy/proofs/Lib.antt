@@ -1,0 +1,4 @@
+pub mod Tables
+pub mod Judging
+pub mod Ruling
+pub mod Meant

@@ -1,0 +1,7 @@
+// What a condition comes to.
+#[derive(Clone, Copy)]
+pub enum Truth {
+    Met,
+    False,
+    Indeterminate,
+}

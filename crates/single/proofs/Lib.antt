@@ -1,0 +1,9 @@
+pub mod Laying
+pub mod Places
+pub mod Numbers
+pub mod Showing
+pub mod Viewing
+pub mod Fitting
+pub mod Spelling
+pub mod Values
+pub mod Categories

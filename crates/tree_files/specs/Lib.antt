@@ -1,0 +1,9 @@
+pub mod Refused
+pub mod Answered
+pub mod Names
+pub mod Links
+pub mod Segments
+pub mod Held
+pub mod Kept
+pub mod Limited
+pub mod Trees

@@ -1,0 +1,4 @@
+pub mod links;
+pub mod names;
+pub mod parents;
+pub mod whole;

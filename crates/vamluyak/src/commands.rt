@@ -1,0 +1,3 @@
+pub mod below;
+pub mod check;
+pub mod decide;

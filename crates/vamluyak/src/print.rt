@@ -1,0 +1,4 @@
+pub mod point;
+pub mod refused;
+pub mod request;
+pub mod tree;
