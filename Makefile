@@ -4,13 +4,19 @@ SOURCES := crates.txt $(shell find crates -name must-fail -prune -o -type f -pri
 
 .PHONY: demo test clean kit
 
-# What the program does: on a request that is accepted, and on one that is refused.
+# What the program does: on a request that is accepted, on one that is refused, on a tree, and on a decision point.
 demo: $(PROGRAM)
 	@echo '$$ $(PROGRAM) check request samples/observatory.hex'
 	@$(PROGRAM) check request samples/observatory.hex
 	@echo
 	@echo '$$ $(PROGRAM) check request samples/refused-tag.hex'
 	@$(PROGRAM) check request samples/refused-tag.hex; test $$? -eq 1
+	@echo
+	@echo '$$ $(PROGRAM) below dome-1 --linked samples/tree-linked.hex'
+	@$(PROGRAM) below dome-1 --linked samples/tree-linked.hex
+	@echo
+	@echo '$$ $(PROGRAM) decide samples/ask-alice.hex --grants samples/grants.hex'
+	@$(PROGRAM) decide samples/ask-alice.hex --grants samples/grants.hex
 
 # Everything that is proved and tested, from nothing. The last line is that of rt ci.
 test: kit
