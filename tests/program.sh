@@ -602,9 +602,9 @@ is_line 'samples/refused-path.hex --tsv' 1 "$(printf 'refused\ttree\t18\t2\tname
 run check rules samples/refused-rule.hex --tsv
 is_line 'samples/refused-rule.hex --tsv' 1 "$(printf 'refused\tpoint\t13\t3\trule 1 condition 0\t13')"
 run check linked samples/tree-linked.hex
-has_words 'samples/tree-linked.hex' 0 out '5 nodes' observatory dome-1 'children 1 2' camera
+has_words 'samples/tree-linked.hex' 0 out 'nodes: 5' observatory dome-1 'children 1 2' camera
 run check paths samples/tree-paths.hex
-has_words 'samples/tree-paths.hex' 0 out '6 nodes' 'site/dome-1/camera' site-2
+has_words 'samples/tree-paths.hex' 0 out 'nodes: 6' 'site/dome-1/camera' site-2
 run check rules samples/policy.hex
 has_words 'samples/policy.hex' 0 out 'rule 0: Deny' 'rule 1: Permit' 'condition 2' bob registry 'must be present'
 run check grants samples/grants.hex

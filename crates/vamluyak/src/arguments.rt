@@ -49,9 +49,10 @@ pub enum Misuse {
     Needless(&'static str),
 }
 
-// The words after a command.
+// The words after a command: one that is no option, and options in any order.
 #[derive(Drop)]
 struct Options {
+    operand: Option<String>,
     tree: Option<Source>,
     point: Option<Source>,
     children: bool,
@@ -63,12 +64,20 @@ pub(crate) fn parse(mut words: Args<Global>) -> Result<Command, Misuse> {
         return Err(Misuse::Missing("a command"));
     };
     match command.as_str() {
-        "--help" => Ok(Command::Help),
-        "--version" => Ok(Command::Version),
+        "--help" => alone(words, Command::Help),
+        "--version" => alone(words, Command::Version),
         "check" => parse_check(words),
         "below" => parse_below(words),
         "decide" => parse_decide(words),
         _ => Err(Misuse::Unknown(command)),
+    }
+}
+
+// A command that takes no words.
+fn alone(mut words: Args<Global>, command: Command) -> Result<Command, Misuse> {
+    match words.next() {
+        Some(word) => Err(Misuse::Unknown(word)),
+        None => Ok(command),
     }
 }
 
@@ -90,10 +99,8 @@ fn parse_check(mut words: Args<Global>) -> Result<Command, Misuse> {
     let Some(kind) = kind_named(word.as_str()) else {
         return Err(Misuse::Unknown(word));
     };
-    let Some(file) = words.next() else {
-        return Err(Misuse::Missing("the file"));
-    };
     let Options {
+        operand,
         tree,
         point,
         children,
@@ -102,15 +109,16 @@ fn parse_check(mut words: Args<Global>) -> Result<Command, Misuse> {
     if tree.is_some() || point.is_some() || children {
         return Err(Misuse::Needless("check takes no option but --tsv"));
     }
+    let Some(file) = operand else {
+        return Err(Misuse::Missing("the file"));
+    };
     let source = Source { kind, file };
     Ok(Command::Check { source, tsv })
 }
 
-fn parse_below(mut words: Args<Global>) -> Result<Command, Misuse> {
-    let Some(name) = words.next() else {
-        return Err(Misuse::Missing("the name of a node"));
-    };
+fn parse_below(words: Args<Global>) -> Result<Command, Misuse> {
     let Options {
+        operand,
         tree,
         point,
         children,
@@ -119,6 +127,9 @@ fn parse_below(mut words: Args<Global>) -> Result<Command, Misuse> {
     if point.is_some() {
         return Err(Misuse::Needless("below takes no decision point"));
     }
+    let Some(name) = operand else {
+        return Err(Misuse::Missing("the name of a node"));
+    };
     let Some(tree) = tree else {
         return Err(Misuse::Missing("--linked FILE or --paths FILE"));
     };
@@ -130,19 +141,20 @@ fn parse_below(mut words: Args<Global>) -> Result<Command, Misuse> {
     })
 }
 
-fn parse_decide(mut words: Args<Global>) -> Result<Command, Misuse> {
-    let Some(request) = words.next() else {
-        return Err(Misuse::Missing("the request"));
-    };
+fn parse_decide(words: Args<Global>) -> Result<Command, Misuse> {
     let Options {
+        operand,
         tree,
         point,
         children,
         tsv,
     } = parse_options(words)?;
     if tree.is_some() || children {
-        return Err(Misuse::Needless("decide takes no tree"));
+        return Err(Misuse::Needless("decide takes no tree and no --children"));
     }
+    let Some(request) = operand else {
+        return Err(Misuse::Missing("the request"));
+    };
     let Some(point) = point else {
         return Err(Misuse::Missing("--rules FILE or --grants FILE"));
     };
@@ -153,9 +165,10 @@ fn parse_decide(mut words: Args<Global>) -> Result<Command, Misuse> {
     })
 }
 
-// Options stand in any order; each that names a file has it in the next word.
+// An option that names a file has it in the next word.
 fn parse_options(words: Args<Global>) -> Result<Options, Misuse> {
     let mut options = Options {
+        operand: None,
         tree: None,
         point: None,
         children: false,
@@ -175,7 +188,7 @@ fn parse_options(words: Args<Global>) -> Result<Options, Misuse> {
                 "--paths" => awaited = Some(Kind::Paths),
                 "--rules" => awaited = Some(Kind::Rules),
                 "--grants" => awaited = Some(Kind::Grants),
-                _ => return Err(Misuse::Unknown(word)),
+                _ => take_operand(&mut options, word)?,
             },
         }
     }
@@ -185,7 +198,18 @@ fn parse_options(words: Args<Global>) -> Result<Options, Misuse> {
     Ok(options)
 }
 
+fn take_operand(options: &mut Options, word: String) -> Result<(), Misuse> {
+    if word.starts_with("--") || options.operand.is_some() {
+        return Err(Misuse::Unknown(word));
+    }
+    options.operand = Some(word);
+    Ok(())
+}
+
 fn take_source(options: &mut Options, source: Source) -> Result<(), Misuse> {
+    if source.file.starts_with("--") {
+        return Err(Misuse::Missing("the file after an option"));
+    }
     match source.kind {
         Kind::Linked | Kind::Paths => {
             if options.tree.is_some() {

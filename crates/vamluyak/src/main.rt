@@ -10,6 +10,7 @@ use arguments::Command;
 use arguments::Misuse;
 use arguments::parse;
 use commands::below;
+use commands::below::Asked;
 use commands::check;
 use commands::decide;
 use failed::Failed;
@@ -38,7 +39,8 @@ With --tsv each line has its fields separated by tabs:
   below    distance, node, name
   decide   decision, status, place
 
-The status is 0 if all went well, and 1 if a file is refused or cannot be read.
+The status is 0 if all went well, and 1 if a file is refused or cannot be read, if no node has
+the name, or if the request is not a single one.
 ";
 
 const VERSION: &str = "vamluyak 0.2.0";
@@ -65,7 +67,12 @@ fn run(rt: &LibcRuntime) -> Result<(), Failed> {
             } else {
                 Extent::Descendants
             };
-            below::below(rt, name.as_str(), &tree, extent, tsv)
+            let asked = Asked {
+                name: name.as_str(),
+                extent,
+                tsv,
+            };
+            below::below(rt, &tree, asked)
         }
         Command::Decide {
             request,

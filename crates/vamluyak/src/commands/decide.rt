@@ -29,35 +29,47 @@ pub(crate) fn decide(
     source: &Source,
     tsv: bool,
 ) -> Result<(), Failed> {
-    let point_bytes = read(rt, source.file.as_str())?;
-    let bytes = read(rt, file)?;
+    let point = read(rt, source.file.as_str())?;
+    let request = read(rt, file)?;
+    let asked = Asked {
+        file,
+        bytes: request.as_slice(),
+        tsv,
+    };
     match source.kind {
-        Kind::Rules => {
-            let mut policy = RulePolicy::new(rt.alloc())?;
-            if let Err(fault) = policy.open(point_bytes.as_slice()) {
-                print_refused(rt, "point", source.file.as_str(), &fault.refusal(), tsv)?;
-                return Err(Failed);
-            }
-            ask(rt, file, bytes.as_slice(), &policy, tsv)
-        }
-        _ => {
-            let mut grants = Grants::new(rt.alloc())?;
-            if let Err(fault) = grants.open(point_bytes.as_slice()) {
-                print_refused(rt, "point", source.file.as_str(), &fault.refusal(), tsv)?;
-                return Err(Failed);
-            }
-            ask(rt, file, bytes.as_slice(), &grants, tsv)
-        }
+        Kind::Rules => by_rules(rt, source.file.as_str(), point.as_slice(), asked),
+        _ => by_grants(rt, source.file.as_str(), point.as_slice(), asked),
     }
 }
 
-fn ask<P: DecisionPoint>(
-    rt: &LibcRuntime,
-    file: &str,
-    bytes: &[u8],
-    point: &P,
+// A request file, and how the answer is to be printed.
+#[derive(Clone, Copy)]
+struct Asked<'a> {
+    file: &'a str,
+    bytes: &'a [u8],
     tsv: bool,
-) -> Result<(), Failed> {
+}
+
+fn by_rules(rt: &LibcRuntime, file: &str, bytes: &[u8], asked: Asked) -> Result<(), Failed> {
+    let mut policy = RulePolicy::new(rt.alloc())?;
+    if let Err(fault) = policy.open(bytes) {
+        print_refused(rt, "point", file, &fault.refusal(), asked.tsv)?;
+        return Err(Failed);
+    }
+    ask(rt, &policy, asked)
+}
+
+fn by_grants(rt: &LibcRuntime, file: &str, bytes: &[u8], asked: Asked) -> Result<(), Failed> {
+    let mut grants = Grants::new(rt.alloc())?;
+    if let Err(fault) = grants.open(bytes) {
+        print_refused(rt, "point", file, &fault.refusal(), asked.tsv)?;
+        return Err(Failed);
+    }
+    ask(rt, &grants, asked)
+}
+
+fn ask<P: DecisionPoint>(rt: &LibcRuntime, point: &P, asked: Asked) -> Result<(), Failed> {
+    let Asked { file, bytes, tsv } = asked;
     let mut request = Request::new(rt.alloc())?;
     if let Err(fault) = request.open(bytes) {
         print_refused(rt, "request", file, &fault.refusal(), tsv)?;

@@ -7,7 +7,7 @@ use tree::reach::Reached;
 // The nodes of a tree, each with its children.
 pub(crate) fn print_tree<T: Tree>(rt: &LibcRuntime, tree: &T) -> io::Result<()> {
     let count = tree.count();
-    println!(rt, "{count} nodes")?;
+    println!(rt, "nodes: {count}")?;
     for node in 0..count {
         if let Some(name) = tree.name(node) {
             let name = Text(name);
