@@ -1,2 +1,4 @@
+#![tactic(auto)]
+
 pub mod decode;
 pub mod turn;

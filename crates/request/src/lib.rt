@@ -1,3 +1,5 @@
+#![tactic(auto)]
+
 pub mod content;
 pub mod fault;
 pub mod index;

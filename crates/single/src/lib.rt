@@ -1,3 +1,5 @@
+#![tactic(auto)]
+
 pub mod seen;
 pub mod short;
 pub mod shown;

@@ -4,10 +4,10 @@ use Rattle.hex_text.specs.declared.turn.Turn.TheVariants.{Goes, EndsLine, Gives,
 use Rattle.hex_text.specs.Text.{ends}
 use Rattle.hex_text.proofs.Steps.{one_on, no_memory, at_the_end, whole}
 use Rattle.hex_text.proofs.decode.decode.Goals as goal
-use Rattle.hex_text.proofs.decode.decode.Goals.{in-Goes, in-EndsLine, in-Gives+in-ok-push}
+use Rattle.hex_text.proofs.decode.decode.Goals.{in-Goes, in-EndsLine, in-Gives+in_ok-push}
 
-pub returns-in-err-push : goal.returns-in-err-push
-returns-in-err-push c = no_memory c.from-residual.result _ c.from-residual.ensures.1
+pub returns-in_err-push : goal.returns-in_err-push
+returns-in_err-push c = no_memory c.from_residual.result _ c.from_residual.ensures.1
 
 pub returns-in-Bad : goal.returns-in-Bad
 returns-in-Bad c =
@@ -19,10 +19,10 @@ loop-character-preserved c =
     let l = c.loop-character in
     let on = one_on l.mode l.line l.bytes.items c.args.text.now l.character-index in
     let taken = c.loop-character-test.true in
-    elim c.match-next-turn.branch [
+    elim c.match-next_turn.branch [
       | in-Goes w ↦ let e = on (Goes w.in-Goes.next) taken w.in-Goes.ensures.turns in let s = w.in-Goes.ensures.small in search (rules, e, s)
       | in-EndsLine w ↦ let e = on EndsLine taken w.in-EndsLine.ensures.turns in search (rules, e)
-      | in-Gives+in-ok-push w ↦ let e = on (Gives w.in-Gives.byte) taken w.in-Gives.ensures.turns in search (rules, e)
+      | in-Gives+in_ok-push w ↦ let e = on (Gives w.in-Gives.byte) taken w.in-Gives.ensures.turns in search (rules, e)
     ]
 
 pub returns-in-FirstDigit : goal.returns-in-FirstDigit
@@ -32,8 +32,8 @@ returns-in-FirstDigit c =
     let m : ends l.mode l.line l.bytes.items ≡ ends (FirstDigit c.in-FirstDigit.field-0) l.line l.bytes.items = ap (λ m. ends m l.line l.bytes.items) c.in-FirstDigit.is in
     sym m ∙ sym e ∙ l.invariant.0
 
-pub returns-in-default : goal.returns-in-default
-returns-in-default c =
+pub returns-in_default : goal.returns-in_default
+returns-in_default c =
     let l = c.loop-character in
     let e = at_the_end l.mode l.line l.bytes.items c.args.text.now l.character-index c.loop-character-test.false in
-    sym (whole l.mode l.line l.bytes.items c.in-default.not-FirstDigit) ∙ sym e ∙ l.invariant.0
+    sym (whole l.mode l.line l.bytes.items c.in_default.not-FirstDigit) ∙ sym e ∙ l.invariant.0

@@ -4,11 +4,11 @@ use Rattle.std.proofs.lemmas.Bool.{ltb-true, ltb-false}
 use Rattle.wire.proofs.Fields.{after_fits, first_byte}
 use Rattle.wire.proofs.field.byte.Goals as goal
 
-pub returns-in-default : goal.returns-in-default
-returns-in-default c = record { here = sym c.rest.ensures ∙ nil_from_length c.rest.result.now (omega (arith, ltb-true, ltb-false)); fault = refl }
+pub returns-in_default : goal.returns-in_default
+returns-in_default c = record { here = sym c.rest.ensures ∙ nil_from_length c.rest.result.now (omega (arith, ltb-true, ltb-false)); fault = refl }
 
-pub overflow-sub-result : goal.overflow-sub-result
-overflow-sub-result c = after_fits c.args.bytes.now c.args.place c.rest.result.now c.rest.ensures 1
+pub overflow_sub-result : goal.overflow_sub-result
+overflow_sub-result c = after_fits c.args.bytes.now c.args.place c.rest.result.now c.rest.ensures 1
 
 pub returns : goal.returns
 returns c = first_byte c.args.bytes.now c.args.place c.rest.result.now c.rest.ensures (omega (arith, ltb-true, ltb-false))

@@ -2,13 +2,13 @@ use Rattle.std.proofs.Common.{◌≡◌, ◌-◌, ◌≤◌, length, drop, ap, �
 use Rattle.wire.proofs.Fields.{bytes_there}
 use Rattle.wire.proofs.field.next_bytes.Goals as goal
 
-pub overflow-add-result : goal.overflow-add-result
-overflow-add-result c =
+pub overflow_add-result : goal.overflow_add-result
+overflow_add-result c =
     let l : length c.rest-left.result.now ≡ length c.args.bytes.now - c.args.place.now = ap length c.rest-left.ensures ∙ length-drop c.args.place.now c.args.bytes.now in
     search (rules, l)
 
-pub overflow-add-place : goal.overflow-add-place
-overflow-add-place c =
+pub overflow_add-place : goal.overflow_add-place
+overflow_add-place c =
     let l : length c.rest-left.result.now ≡ length c.args.bytes.now - c.args.place.now = ap length c.rest-left.ensures ∙ length-drop c.args.place.now c.args.bytes.now in
     search (rules, l)
 

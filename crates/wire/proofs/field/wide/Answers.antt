@@ -3,13 +3,13 @@ use Rattle.std.proofs.lemmas.Bool.{ltb-true, ltb-false}
 use Rattle.wire.proofs.Fields.{after_fits, wide_there}
 use Rattle.wire.proofs.field.wide.Goals as goal
 
-pub overflow-add-result : goal.overflow-add-result
-overflow-add-result c =
+pub overflow_add-result : goal.overflow_add-result
+overflow_add-result c =
     let l : length c.rest-left.result.now ≡ length c.args.bytes.now - c.args.place.now = ap length c.rest-left.ensures ∙ length-drop c.args.place.now c.args.bytes.now in
     search (rules, l)
 
-pub overflow-sub-place : goal.overflow-sub-place
-overflow-sub-place c = after_fits c.args.bytes.now c.args.place.now c.rest-left.result.now c.rest-left.ensures 2
+pub overflow_sub-place : goal.overflow_sub-place
+overflow_sub-place c = after_fits c.args.bytes.now c.args.place.now c.rest-left.result.now c.rest-left.ensures 2
 
 pub returns : goal.returns
 returns c =

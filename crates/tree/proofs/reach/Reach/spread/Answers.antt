@@ -5,7 +5,7 @@ use Rattle.tree.proofs.reach.Reach.spread.Goals as goal
 pub loop-i-preserved : goal.loop-i-preserved
 loop-i-preserved g c =
     let within : c.loop-i.i < length (vec_items c.loop-i.self.nodes) = omega (arith, ap length c.loop-i.invariant.nodes_are, c.args.self.now.nodes.ok.0) in
-    spreading_more c.loop-i.invariant _ _ within c.index.ensures c.mark-children.ensures
+    spreading_more c.loop-i.invariant _ _ within c.index.ensures c.mark_children.ensures
 
 pub returns : goal.returns
 returns g c =

@@ -2,8 +2,8 @@ use Rattle.std.proofs.Common.{◌≡◌, false, ◌||◌, get_or, ap, ◌∙◌,
 use Rattle.tree.proofs.Firsts.{child_is, child_below, child_not, marked_more}
 use Rattle.tree.proofs.reach.steps.mark_children.Goals as goal
 
-pub overflow-add-from : goal.overflow-add-from
-overflow-add-from g c =
+pub overflow_add-from : goal.overflow_add-from
+overflow_add-from g c =
     let t = g.T.Tree in
     let least = child_below (t.meaning c.args.tree.now) c.args.node _ _ c.in-Some.ensures in
     record { fits = omega (arith, least, (t.limits c.args.tree.now).few) }
@@ -25,4 +25,4 @@ pub returns : goal.returns
 returns g c =
     let t = g.T.Tree in
     let tree = c.args.tree.now in
-    λ k h. c.loop-child.invariant k h ∙ ap (λ x. get_or c.args.found.now.on k false || x) (child_not (t.meaning tree) c.args.node c.loop-child.from c.in-default.ensures (t.limits tree) k)
+    λ k h. c.loop-child.invariant k h ∙ ap (λ x. get_or c.args.found.now.on k false || x) (child_not (t.meaning tree) c.args.node c.loop-child.from c.in_default.ensures (t.limits tree) k)
