@@ -120,6 +120,6 @@ module _ (tree : Tree) (a : ℕ) (few : count tree ≤ 1024) where
       pub levelled_stop : (x : Extent) → length rs₂ ≡ length rs → suc j ≤ depth tree x → rs₂ ≡ levels_at tree a 0 (depth tree x)
       levelled_stop x same h =
           let l = all_at (suc j) (level tree a (suc j)) in
-          let none : length (level tree a (suc j)) ≡ 0 = omega (arith, ap length next_level, length-append rs l, length-map (level tree a (suc j)) (Rattle.tree.specs.Reached.at-distance (suc j))) in
+          let none : length (level tree a (suc j)) ≡ 0 = omega (arith, ap length next_level, length-append rs l, length-map (level tree a (suc j)) (Rattle.tree.specs.Reached.at_distance (suc j))) in
           let empty = nil_from_length (level tree a (suc j)) none in
           next_level ∙ ap (λ ns. rs ++ all_at (suc j) ns) empty ∙ append-nil rs ∙ r.nodes_are ∙ levels_all tree a (suc j) (depth tree x) h empty

@@ -11,7 +11,7 @@ use crate::reach::{Reach, Reached};
 use std::alloc::{AllocError, Global};
 
 fn mark_children<T: Tree>(tree: &T, node: usize, found: &mut Marks)
-    ensures { (k : ℕ) → k < 1024 → slice_index_or found.new.on k false ≡ (slice_index_or found.old.on k false || (meaning tree.now).linked node k) }
+    ensures { (k : ℕ) → k < 1024 → slice_index_or found.new.on k false ≡ (slice_index_or found.old.on k false || (T.meaning tree.now).linked node k) }
 {
     let mut from = 0;
     while let Some(child) = tree.child(node, from) {
@@ -77,7 +77,7 @@ impl Reach {
     fn spread<T: Tree>(&mut self, tree: &T, start: usize)
         ensures nodes { self.new.nodes.items ≡ self.old.nodes.items }
         ensures seen { self.new.seen.on ≡ self.old.seen.on }
-        ensures found { (k : ℕ) → k < 1024 → slice_index_or self.new.found.on k false ≡ (slice_index_or self.old.found.on k false || any (λ m. (meaning tree.now).linked m k) (nodes_reached (drop start self.old.nodes.items))) }
+        ensures found { (k : ℕ) → k < 1024 → slice_index_or self.new.found.on k false ≡ (slice_index_or self.old.found.on k false || any (λ m. (T.meaning tree.now).linked m k) (nodes_reached (drop start self.old.nodes.items))) }
     {
         for i in start..self.nodes.len() {
             let node = self.nodes[i].node;
@@ -88,8 +88,8 @@ impl Reach {
     // The nodes that links lead to from `asked`, with their distances, level by level; none where there is no such node.
     // Asks for each child of each reached node once, and looks through the marks once for each level.
     pub fn explore<T: Tree>(&mut self, tree: &T, asked: usize, extent: Extent)
-        ensures nodes { nodes_reached self.new.nodes.items ≡ reached (meaning tree.now) (extent_of extent) asked }
-        ensures reaches { asked < node_count (meaning tree.now) → Reaches (meaning tree.now) (extent_of extent) asked self.new.nodes.items }
+        ensures nodes { nodes_reached self.new.nodes.items ≡ reached (T.meaning tree.now) (extent_of extent) asked }
+        ensures reaches { asked < node_count (T.meaning tree.now) → Reaches (T.meaning tree.now) (extent_of extent) asked self.new.nodes.items }
     {
         self.clear();
         self.found.set(asked);

@@ -4,10 +4,10 @@ use Rattle.hex_text.specs.declared.turn.Turn.TheVariants.{Goes, EndsLine, Gives,
 use Rattle.hex_text.specs.Text.{ends}
 use Rattle.hex_text.proofs.Steps.{one_on, no_memory, at_the_end, whole}
 use Rattle.hex_text.proofs.decode.decode.Goals as goal
-use Rattle.hex_text.proofs.decode.decode.Goals.{in-Goes, in-EndsLine, in-Gives+in_ok-push}
+use Rattle.hex_text.proofs.decode.decode.Goals.{in-Goes, in-EndsLine, in-Gives+in_ok-push-in-Gives}
 
-pub returns-in_err-push : goal.returns-in_err-push
-returns-in_err-push c = no_memory c.from_residual.result _ c.from_residual.ensures.1
+pub returns-in_err-push-in-Gives : goal.returns-in_err-push-in-Gives
+returns-in_err-push-in-Gives c = no_memory c.from_residual.result _ c.from_residual.ensures.1
 
 pub returns-in-Bad : goal.returns-in-Bad
 returns-in-Bad c =
@@ -22,7 +22,7 @@ loop-character-preserved c =
     elim c.match-next_turn.branch [
       | in-Goes w ↦ let e = on (Goes w.in-Goes.next) taken w.in-Goes.ensures.turns in let s = w.in-Goes.ensures.small in search (rules, e, s)
       | in-EndsLine w ↦ let e = on EndsLine taken w.in-EndsLine.ensures.turns in search (rules, e)
-      | in-Gives+in_ok-push w ↦ let e = on (Gives w.in-Gives.byte) taken w.in-Gives.ensures.turns in search (rules, e)
+      | in-Gives+in_ok-push-in-Gives w ↦ let e = on (Gives w.in-Gives.byte) taken w.in-Gives.ensures.turns in search (rules, e)
     ]
 
 pub returns-in-FirstDigit : goal.returns-in-FirstDigit

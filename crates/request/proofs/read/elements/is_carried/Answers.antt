@@ -6,8 +6,8 @@ use Rattle.request.proofs.read.elements.is_carried.Goals as goal
 abbrev blank : Element
 blank = record { category = 0; tag = None; attributes = record { first = 0; count = 0 } }
 
-pub returns-then-has-tag : goal.returns-then-has-tag
-returns-then-has-tag c = let e = drop_more c.args.earlier.now c.loop-element.element-index blank c.loop-element-test.true in search (rules, e)
+pub returns-then-has_tag : goal.returns-then-has_tag
+returns-then-has_tag c = let e = drop_more c.args.earlier.now c.loop-element.element-index blank c.loop-element-test.true in search (rules, e)
 
 pub loop-element-preserved : goal.loop-element-preserved
 loop-element-preserved c = let e = drop_more c.args.earlier.now c.loop-element.element-index blank c.loop-element-test.true in search (rules, e)

@@ -8,7 +8,7 @@ use Rattle.request.specs.Tables.{added, Grows}
 
 abbrev pub invariant-loop-number : goal.invariant-loop-number
 invariant-loop-number l =
-    Left one_tag l.count l.-number (added l.initial.table l.table) l.bytes l.place
+    Left one_tag l.count l._number (added l.initial.table l.table) l.bytes l.place
     (from l.bytes l.initial.place (many one_tag l.count))
-    × Grows l.-number l.initial.table l.table
-    × (vec_len l.table ≡ vec_len l.initial.table + l.-number)
+    × Grows l._number l.initial.table l.table
+    × (vec_len l.table ≡ vec_len l.initial.table + l._number)

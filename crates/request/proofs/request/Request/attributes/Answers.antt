@@ -9,14 +9,14 @@ blank = record { category = 0; tag = None; attributes = record { first = 0; coun
 pub returns-then-number-elements : goal.returns-then-number-elements
 returns-then-number-elements c =
     let i = c.args.self.now.index in
-    let h : length i.elements.items ≤ c.args.number = omega (arith, ap length c.as-slice-elements.ensures.value) in
+    let h : length i.elements.items ≤ c.args.number = omega (arith, ap length c.as_slice-elements.ensures.value) in
     sym (attributes_past c.args.self.now.bytes.now i.attributes.items i.elements.items c.args.number h)
 
 pub returns : goal.returns
 returns c =
     let i = c.args.self.now.index in
-    let v = c.as-slice-elements.ensures.value in
-    let w = c.as-slice.ensures.value in
+    let v = c.as_slice-elements.ensures.value in
+    let w = c.as_slice.ensures.value in
     let h : c.args.number < length i.elements.items = omega (arith, ap length v) in
     let e = attributes_here c.args.self.now.bytes.now i.attributes.items i.elements.items c.args.number blank h in
     search (rules, e, v, w)

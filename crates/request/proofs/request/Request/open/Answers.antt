@@ -9,11 +9,11 @@ use Rattle.request.proofs.Opened.{opened}
 use Rattle.request.proofs.request.Request.open.Goals as goal
 
 -- a refusal: what was held before is held
-pub returns-in-err-read : goal.returns-in-err-read
-returns-in-err-read c =
+pub returns-in_err-read : goal.returns-in_err-read
+returns-in_err-read c =
     let q : Request = index_of c.args.self.now.bytes.now c.args.self.now.index in
-    let a : answered in_request_fault q c.from-residual.result ≡ read_request c.args.bytes.now = search rules in
-    record { answer = a; spelled = opened in_request_fault SpellingOf c.args.bytes.now (read_request c.args.bytes.now) (accepted_exactly c.args.bytes.now) q c.from-residual.result a; held = search rules; kept = search rules }
+    let a : answered in_request_fault q c.from_residual.result ≡ read_request c.args.bytes.now = search rules in
+    record { answer = a; spelled = opened in_request_fault SpellingOf c.args.bytes.now (read_request c.args.bytes.now) (accepted_exactly c.args.bytes.now) q c.from_residual.result a; held = search rules; kept = search rules }
 
 pub returns : goal.returns
 returns c =

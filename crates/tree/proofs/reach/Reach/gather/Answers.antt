@@ -14,7 +14,7 @@ pub invariant_of-self : goal.invariant_of-self
 invariant_of-self c =
     let low : c.loop-node.node < 1024 = omega arith in
     let more = one_more c.loop-node.self.seen.on c.loop-node.node c.loop-node.self.seen.full low (sym c.if-not-is_set.ensures) in
-    (omega arith, (c.push_reserved.ensures.len ∙ ap (λ n. n + 1) c.loop-node.self.counted ∙ sym more ∙ ap (count_by (λ b. b)) (sym c.set.ensures), tt))
+    record { room = omega arith; counted = c.push_reserved.ensures.len ∙ ap (λ n. n + 1) c.loop-node.self.counted ∙ sym more ∙ ap (count_by (λ b. b)) (sym c.set.ensures) }
 
 pub loop-node-preserved : goal.loop-node-preserved
 loop-node-preserved c =
