@@ -1,3 +1,4 @@
 #![tactic(auto)]
 
+pub mod asking;
 pub mod point;

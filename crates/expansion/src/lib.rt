@@ -1,3 +1,5 @@
+#![tactic(auto)]
+
 pub mod asked;
 pub mod categories;
 pub mod choice;

@@ -7,7 +7,7 @@ ghost use Rattle.single.specs.Numbers.{past, all_at};
 ghost use Rattle.single.specs.Single.{chosen_of, content};
 ghost use Rattle.expansion.specs.Few.{held};
 ghost use Rattle.expansion.specs.Listed.{listed_of};
-ghost use Rattle.expansion.specs.Put.{element_of};
+ghost use Rattle.expansion.specs.Put.{element_of, at_node};
 
 use crate::few::Few;
 use request::request::Request;
@@ -23,8 +23,22 @@ pub fn put<'r, 'a>(request: &'r Request<'a>, chosen: &Few) -> Option<SingleReque
     SingleRequest::new(request, chosen.numbers, chosen.count)
 }
 
-// The same elements for a node; past the last node, which no reached one is, the name is empty.
+// The same elements for a node; none past the tree's last node.
 pub fn put_at<'r, 'a, 'm, T: Tree>(
+    single: &SingleRequest<'r, 'a, 'a>,
+    tree: &'m T,
+    node: usize,
+) -> Option<SingleRequest<'r, 'a, 'm>>
+    ensures { (ls : List Listed) → chosen_of single.now ≡ map element_of ls → option_map content result ≡ at_node (meaning tree.now) node ls }
+{
+    match tree.name(node) {
+        Some(name) => Some(single.at(name)),
+        None => None,
+    }
+}
+
+// The same for a node that was reached; past the last node, which no reached one is, the name is empty.
+pub fn put_reached<'r, 'a, 'm, T: Tree>(
     single: &SingleRequest<'r, 'a, 'a>,
     tree: &'m T,
     node: usize,

@@ -14,7 +14,7 @@ abbrev pub lines_at : List ℕ → List HeldLine → List Line
 lines_at bytes lines = list.map (line_of bytes) lines
 
 abbrev pub lines_in : List ℕ → Vec HeldLine Global → List Line
-lines_in bytes lines = lines_at bytes (vec_items lines)
+lines_in bytes lines = list.map (line_of bytes) (vec_items lines)
 
 abbrev pub lines_of : List ℕ → Lines → List Line
 lines_of bytes i = lines_in bytes i.lines

@@ -1,3 +1,5 @@
+#![tactic(auto)]
+
 mod bisect;
 pub mod deciding;
 pub mod fault;

@@ -2,7 +2,7 @@ ghost use Rattle.std.specs.Prelude.{◌≡◌, ◌≤◌, [], length, IfOk, OnEr
 ghost use Rattle.model.specs.PointFiles.{read_grants};
 ghost use Rattle.model.specs.PointSpelling.{GrantsSpelling};
 ghost use Rattle.wire.specs.Span.{part as part_of};
-ghost use Rattle.request.specs.Answered.{answered, Opened};
+ghost use Rattle.request.specs.Answered.{answered, OpenedAs};
 ghost use Rattle.grants.specs.Place.{grant_lines, lines_shown};
 ghost use Rattle.grants.specs.Refused.{in_grants_fault};
 
@@ -31,7 +31,7 @@ impl<'a> Grants<'a> {
     // Reads the grants that the bytes spell; a refusal leaves those before.
     pub fn open(&mut self, bytes: &'a [u8]) -> Result<(), GrantsFault>
         ensures answer { answered in_grants_fault (grant_lines self.new) result ≡ read_grants bytes.now }
-        ensures spelled { Opened GrantsSpelling bytes.now (grant_lines self.new) result }
+        ensures spelled { OpenedAs GrantsSpelling bytes.now (grant_lines self.new) result }
         ensures kept { OnErr result (grant_lines self.new ≡ grant_lines self.old) }
     {
         self.spare.read(bytes)?;

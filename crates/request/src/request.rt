@@ -1,7 +1,6 @@
 ghost use Rattle.std.specs.Prelude.{◌≡◌, IfOk, OnErr};
 ghost use Rattle.std.specs.Option.{option_map};
 ghost use Rattle.model.specs.Content.{read_request};
-ghost use Rattle.model.specs.Spelling.{SpellingOf};
 ghost use Rattle.wire.specs.Span.{part as part_of};
 ghost use Rattle.request.specs.Answered.{answered, Opened};
 ghost use Rattle.request.specs.Held.{attributes_of_held, none_held};
@@ -40,7 +39,7 @@ impl<'a> Request<'a> {
     // Reads the request that the bytes spell; a refusal leaves the one before.
     pub fn open(&mut self, bytes: &'a [u8]) -> Result<(), RequestFault>
         ensures answer { answered in_request_fault (content_of self.new) result ≡ read_request bytes.now }
-        ensures spelled { Opened SpellingOf bytes.now (content_of self.new) result }
+        ensures spelled { Opened bytes.now (content_of self.new) result }
         ensures held { bytes_of self.new ≡ bytes_held result bytes.now self.old }
         ensures kept { OnErr result (content_of self.new ≡ content_of self.old) }
     {

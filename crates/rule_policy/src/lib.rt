@@ -1,3 +1,5 @@
+#![tactic(auto)]
+
 pub mod deciding;
 pub mod fault;
 pub mod opening;

@@ -2,7 +2,7 @@ ghost use Rattle.std.specs.Prelude.{◌≡◌, ◌≤◌, [], length, IfOk, OnEr
 ghost use Rattle.model.specs.PointFiles.{read_policy};
 ghost use Rattle.model.specs.PointSpelling.{PolicySpelling};
 ghost use Rattle.wire.specs.Span.{part as part_of};
-ghost use Rattle.request.specs.Answered.{answered, Opened};
+ghost use Rattle.request.specs.Answered.{answered, OpenedAs};
 ghost use Rattle.rule_policy.specs.Held.{conditions_of};
 ghost use Rattle.rule_policy.specs.Place.{rules_of, rules_shown, conditions_shown};
 ghost use Rattle.rule_policy.specs.Refused.{in_policy_fault};
@@ -32,7 +32,7 @@ impl<'a> RulePolicy<'a> {
     // Reads the policy that the bytes spell; a refusal leaves the one before.
     pub fn open(&mut self, bytes: &'a [u8]) -> Result<(), PolicyFault>
         ensures answer { answered in_policy_fault (rules_of self.new) result ≡ read_policy bytes.now }
-        ensures spelled { Opened PolicySpelling bytes.now (rules_of self.new) result }
+        ensures spelled { OpenedAs PolicySpelling bytes.now (rules_of self.new) result }
         ensures kept { OnErr result (rules_of self.new ≡ rules_of self.old) }
     {
         self.spare.read(bytes)?;

@@ -29,7 +29,7 @@ fn reaches<T: Tree>(
     distances: &[usize],
 ) -> Result<(), Fail> {
     let mut reach = Reach::new(rt.alloc())?;
-    reach.explore(tree, 0, extent);
+    reach.search(tree, 0, extent);
     assert_eq!(rt; reach.nodes().len(), nodes.len());
     for (i, reached) in reach.nodes().iter().enumerate() {
         if i < nodes.len() && i < distances.len() {

@@ -20,7 +20,7 @@ fn mark_children<T: Tree>(tree: &T, node: usize, found: &mut Marks)
     }
 }
 
-// The farthest distance that is looked at.
+// The greatest distance that is looked at.
 fn farthest(extent: Extent, count: usize) -> usize
     ensures { result ≡ farthest_of (extent_of extent) count }
 {
@@ -41,7 +41,7 @@ impl Reach {
         Ok(Reach { nodes, seen, found })
     }
 
-    // What was reached last.
+    // What the last search reached.
     pub fn nodes(&self) -> &[Reached]
         ensures { result.now ≡ self.now.nodes.items }
     {
@@ -87,7 +87,7 @@ impl Reach {
 
     // The nodes that links lead to from `asked`, with their distances, level by level; none where there is no such node.
     // Asks for each child of each reached node once, and looks through the marks once for each level.
-    pub fn explore<T: Tree>(&mut self, tree: &T, asked: usize, extent: Extent)
+    pub fn search<T: Tree>(&mut self, tree: &T, asked: usize, extent: Extent)
         ensures nodes { nodes_reached self.new.nodes.items ≡ reached (T.meaning tree.now) (extent_of extent) asked }
         ensures reaches { asked < node_count (T.meaning tree.now) → Reaches (T.meaning tree.now) (extent_of extent) asked self.new.nodes.items }
     {

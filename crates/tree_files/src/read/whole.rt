@@ -45,7 +45,7 @@ impl Tables {
         let nodes = self.names.len();
         read_links(bytes, &mut place, nodes, &mut self.links)?;
         field::end(bytes, place)?;
-        self.links.sort();
+        self.links.sort_unstable();
         Ok(())
     }
 
@@ -61,7 +61,7 @@ impl Tables {
         let names = self.names.as_slice();
         let order = self.order.as_slice();
         link_paths(bytes, names, order, &mut self.links);
-        self.links.sort();
+        self.links.sort_unstable();
         Ok(())
     }
 }

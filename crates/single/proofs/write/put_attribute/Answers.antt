@@ -12,11 +12,11 @@ returns c =
     let a = c.args.seen in
     let issuer = option_map (spanned c.args.bytes.now) a.issuer in
     let there = there_mapped cut issuer ∙ there_mapped (spanned c.args.bytes.now) a.issuer in
-    let map_is = c.attribute-map-map.ensures ∙ ap (λ b. flag (other_type a.data_type) 1 + flag b 2 + flag a.included 4) (sym there) in
+    let map_is = c.attribute_map-map.ensures ∙ ap (λ b. flag (other_type a.data_type) 1 + flag b 2 + flag a.included 4) (sym there) in
     let bytes = ap₂ (λ m v. m ∷ a.id ∷ (type_bytes a.data_type ++ (spell_some spell_text (option_map cut issuer) ++ spell_text (cut v)))) map_is c.value.ensures in
-    let m = c.put-after-map.ensures.next in
-    let i = c.put-after-id.ensures.next in
+    let m = c.put-after_map.ensures.next in
+    let i = c.put-after_id.ensures.next in
     record {
-      laid = laid_as bytes (laid_more c.put-after-map.ensures (laid_more c.put-after-id.ensures (laid_more c.put-type-after-type.ensures.laid (laid_more c.put-issuer-after-issuer.ensures.laid c.put-text.ensures.laid))));
+      laid = laid_as bytes (laid_more c.put-after_map.ensures (laid_more c.put-after_id.ensures (laid_more c.put_type-after_type.ensures.laid (laid_more c.put_issuer-after_issuer.ensures.laid c.put_text.ensures.laid))));
       far = omega arith;
     }

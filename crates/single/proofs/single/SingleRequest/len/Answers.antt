@@ -5,4 +5,4 @@ use Rattle.single.proofs.Fitting.{exact}
 use Rattle.single.proofs.single.SingleRequest.len.Goals as goal
 
 pub returns : goal.returns
-returns c = record { count = c.put-all.ensures.next ∙ zero-add (length (bytes_for (content c.args.self.now))); exact = exact c.args.self.now }
+returns c = record { count = c.put_all.ensures.next ∙ zero-add (length (bytes_for (content c.args.self.now))); exact = exact c.args.self.now }

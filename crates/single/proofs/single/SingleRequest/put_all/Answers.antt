@@ -8,20 +8,20 @@ use Rattle.single.proofs.single.SingleRequest.put_all.Goals as goal
 pub loop-element-init : goal.loop-element-init
 loop-element-init c = (laid_none _ _, omega arith)
 
-pub put-element-after-requires : goal.put-element-after-requires
-put-element-after-requires c =
+pub put_element-after-requires : goal.put_element-after-requires
+put_element-after-requires c =
     let l = content_length c.args.self.now in
-    let x = c.put-after-map.ensures.next in
+    let x = c.put-after_map.ensures.next in
     let y = c.put-after.ensures.next in
     omega arith
 
 pub loop-element-preserved : goal.loop-element-preserved
 loop-element-preserved c =
     let in' : c.loop-element.element < length (content c.args.self.now) = omega arith in
-    (laid_as (elements_push (content c.args.self.now) c.loop-element.element in') (laid_more c.loop-element.invariant.0 c.put-element-after.ensures.laid), omega arith)
+    (laid_as (elements_push (content c.args.self.now) c.loop-element.element in') (laid_more c.loop-element.invariant.0 c.put_element-after.ensures.laid), omega arith)
 
 pub returns : goal.returns
 returns c =
     let es = content c.args.self.now in
     let all : length es ≤ c.loop-element.element = omega arith in
-    laid_as (whole_spelled es c.args.self.now.count c.loop-element.element (sym (content_length c.args.self.now)) all) (laid_more c.put-after-map.ensures (laid_more c.put-after.ensures c.loop-element.invariant.0))
+    laid_as (whole_spelled es c.args.self.now.count c.loop-element.element (sym (content_length c.args.self.now)) all) (laid_more c.put-after_map.ensures (laid_more c.put-after.ensures c.loop-element.invariant.0))

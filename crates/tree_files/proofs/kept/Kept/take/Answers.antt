@@ -4,10 +4,10 @@ use Rattle.wire.specs.Told.{spanned}
 use Rattle.tree_files.specs.Held.{Good}
 use Rattle.tree_files.proofs.kept.Kept.take.Goals as goal
 
-pub invariant-of-self : goal.invariant-of-self
-invariant-of-self c =
+pub invariant_of-self : goal.invariant_of-self
+invariant_of-self c =
     let t = c.swap.new.x in
-    let g : Good c.args.bytes.now t = subst (Good c.args.bytes.now) (sym c.swap.ensures.x-after) c.requires in
+    let g : Good c.args.bytes.now t = subst (Good c.args.bytes.now) (sym c.swap.ensures.x_after) c.requires in
     let x = g.indexed in
     let many = t.order.ok.0 ∙ x.as_many ∙ length-map (vec_items t.names) (spanned c.args.bytes.now) ∙ sym t.names.ok.0 in
     (g.few, (many, (x.named, (x.inside, (x.ascending, (x.complete, (g.ends, (g.sorted, tt))))))))

@@ -9,15 +9,15 @@ use Rattle.tree_files.proofs.Spelling.{opened_linked}
 use Rattle.tree_files.proofs.linked.LinkedTree.open.Goals as goal
 
 -- a refusal: what was held before is held
-pub returns-in-err-read-linked : goal.returns-in-err-read-linked
-returns-in-err-read-linked c =
+pub returns-in_err-read_linked : goal.returns-in_err-read_linked
+returns-in_err-read_linked c =
     let t = tree_of c.args.self.now.kept in
-    let a : answered in_tree_fault t c.from-residual.result ≡ read_linked_tree c.args.bytes.now = search rules in
-    record { answer = a; spelled = opened_linked in_tree_fault c.args.bytes.now c.type-inv.bytes t c.from-residual.result a; left = search rules }
+    let a : answered in_tree_fault t c.from_residual.result ≡ read_linked_tree c.args.bytes.now = search rules in
+    record { answer = a; spelled = opened_linked in_tree_fault c.args.bytes.now c.type_inv.bytes t c.from_residual.result a; left = search rules }
 
 pub returns : goal.returns
 returns c =
     let t = tree_of c.take.new.self in
     let accept : Tree → Result Tree Refusal = λ x. Ok x in
-    let a : answered in_tree_fault t (Ok tt) ≡ read_linked_tree c.args.bytes.now = ap accept c.take.ensures ∙ c.in-ok-read-linked.ensures.answer in
-    record { answer = a; spelled = opened_linked in_tree_fault c.args.bytes.now c.type-inv.bytes t (Ok tt) a; left = tt }
+    let a : answered in_tree_fault t (Ok tt) ≡ read_linked_tree c.args.bytes.now = ap accept c.take.ensures ∙ c.in_ok-read_linked.ensures.answer in
+    record { answer = a; spelled = opened_linked in_tree_fault c.args.bytes.now c.type_inv.bytes t (Ok tt) a; left = tt }

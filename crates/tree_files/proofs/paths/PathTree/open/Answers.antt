@@ -12,22 +12,22 @@ use Rattle.tree_files.proofs.Spelling.{opened_paths}
 use Rattle.tree_files.proofs.paths.PathTree.open.Goals as goal
 
 -- a refusal: what was held before is held
-pub returns-in-err-read-paths : goal.returns-in-err-read-paths
-returns-in-err-read-paths c =
+pub returns-in_err-read_paths : goal.returns-in_err-read_paths
+returns-in_err-read_paths c =
     let t = tree_of c.args.self.now.kept in
-    let a : answered in_tree_fault t c.from-residual.result ≡ read_path_tree c.args.bytes.now = search rules in
-    record { answer = a; spelled = opened_paths in_tree_fault c.args.bytes.now c.type-inv.bytes t c.from-residual.result a; left = search rules; segments = IfOk-from_err _ _ c.from-residual.ensures.0 }
+    let a : answered in_tree_fault t c.from_residual.result ≡ read_path_tree c.args.bytes.now = search rules in
+    record { answer = a; spelled = opened_paths in_tree_fault c.args.bytes.now c.type_inv.bytes t c.from_residual.result a; left = search rules; segments = IfOk-from_err _ _ c.from_residual.ensures.0 }
 
 pub returns : goal.returns
 returns c =
     let t = tree_of c.take.new.self in
     let taken = c.take.ensures in
-    let read = c.in-ok-read-paths.ensures.answer in
+    let read = c.in_ok-read_paths.ensures.answer in
     let accept : Tree → Result Tree Refusal = λ x. Ok x in
     let a : answered in_tree_fault t (Ok tt) ≡ read_path_tree c.args.bytes.now = ap accept taken ∙ read in
     record {
       answer = a;
-      spelled = opened_paths in_tree_fault c.args.bytes.now c.type-inv.bytes t (Ok tt) a;
+      spelled = opened_paths in_tree_fault c.args.bytes.now c.type_inv.bytes t (Ok tt) a;
       left = tt;
       segments = subst BySegments (sym taken) (read_by_segments c.args.bytes.now _ read);
     }

@@ -15,13 +15,13 @@ use Rattle.tree_files.proofs.read.names.read_names.Goals as goal
 none_indexed : (bytes : _) (names : List Span) (order : _) → names ≡ [] → order ≡ [] → Indexed (texts_of bytes names) order
 none_indexed bytes names order n o = subst (λ l. Indexed (texts_of bytes l) order) (sym n) (subst (Indexed []) (sym o) indexed_none)
 
-pub returns-in-err-count : goal.returns-in-err-count
-returns-in-err-count c =
-    let e = c.in-err-count.ensures.read in
+pub returns-in_err-count : goal.returns-in_err-count
+returns-in_err-count c =
+    let e = c.in_err-count.ensures.read in
     let n = nil_from_length c.args.names.now.items (omega arith) in
     let o = nil_from_length c.args.order.now.items (omega arith) in
     record {
-      read = told_refused in_tree_fault (always (texts_of c.args.bytes.now (vec_items c.args.names.now))) (Field c.in-err-count.field-0.0) c.args.bytes.now c.wide.new.place _ c.from-residual.result c.from-residual.ensures.1 (search (rules, e));
+      read = told_refused in_tree_fault (always (texts_of c.args.bytes.now (vec_items c.args.names.now))) (Field c.in_err-count.field-0.0) c.args.bytes.now c.wide.new.place _ c.from_residual.result c.from_residual.ensures.1 (search (rules, e));
       indexed = none_indexed c.args.bytes.now _ _ n o;
       few = omega arith;
       room = (refl, refl);
@@ -33,14 +33,14 @@ loop-number-init c =
     let o = nil_from_length c.args.order.now.items (omega arith) in
     (search (rules, n), none_indexed c.args.bytes.now _ _ n o, omega arith, refl, refl)
 
-pub returns-in-err-new : goal.returns-in-err-new
-returns-in-err-new c =
-    let e = c.in-err-new.ensures.read in
-    let v = c.as-slice.ensures.value in
+pub returns-in_err-new : goal.returns-in_err-new
+returns-in_err-new c =
+    let e = c.in_err-new.ensures.read in
+    let v = c.as_slice.ensures.value in
     record {
-      read = told_refused in_tree_fault (always (texts_of c.args.bytes.now (vec_items c.loop-number.names))) (Name c.in-err-new.field-0.0) c.args.bytes.now c.numbered-name.new.place _ c.from-residual-in-err-new.result c.from-residual-in-err-new.ensures.1 (search (rules, one_less, e, v));
+      read = told_refused in_tree_fault (always (texts_of c.args.bytes.now (vec_items c.loop-number.names))) (Name c.in_err-new.field-0.0) c.args.bytes.now c.numbered_name.new.place _ c.from_residual-in_err-new.result c.from_residual-in_err-new.ensures.1 (search (rules, one_less, e, v));
       indexed = c.loop-number.invariant.1;
-      few = omega (arith, c.loop-number.invariant.2, c.in-ok-count.ensures.high);
+      few = omega (arith, c.loop-number.invariant.2, c.in_ok-count.ensures.high);
       room = (c.loop-number.invariant.3, c.loop-number.invariant.4);
     }
 
@@ -49,16 +49,16 @@ loop-number-preserved c =
     let bytes = c.args.bytes.now in
     let names = c.loop-number.names in
     let order = c.loop-number.order in
-    let new = c.in-ok-new.new in
-    let o = c.in-ok-new.ensures in
+    let new = c.in_ok-new.new in
+    let o = c.in_ok-new.ensures in
     let r = o.read in
-    let v = c.as-slice.ensures.value in
-    let w = c.as-slice-in-loop-number.ensures.value in
-    let i = c.push-reserved.ensures.items in
+    let v = c.as_slice.ensures.value in
+    let w = c.as_slice-in-loop-number.ensures.value in
+    let i = c.push_reserved.ensures.items in
     let x = c.loop-number.invariant.1 in
     let count : length (texts_of bytes (vec_items names)) ≡ c.loop-number.number = length-map (vec_items names) (spanned bytes) ∙ sym names.ok.0 ∙ c.loop-number.invariant.2 in
-    let room : vec_len order < vec_capacity order = omega (arith, x.as_many, count, order.ok.0, c.loop-number.invariant.4, c.in-ok-count.ensures.high) in
+    let room : vec_len order < vec_capacity order = omega (arith, x.as_many, count, order.ok.0, c.loop-number.invariant.4, c.in_ok-count.ensures.high) in
     let put = c.insert.ensures.items ∙ cond-true (is_ok c.insert.result) _ _ (c.insert.ensures.succeeds room) in
-    let f = subst (λ l. Fresh (texts_of bytes (vec_items names)) l (name_in bytes new) new.at) w (subst (λ l. Fresh (texts_of bytes l) c.as-slice-in-loop-number.result.now (name_in bytes new) new.at) v o.fresh) in
+    let f = subst (λ l. Fresh (texts_of bytes (vec_items names)) l (name_in bytes new) new.at) w (subst (λ l. Fresh (texts_of bytes l) c.as_slice-in-loop-number.result.now (name_in bytes new) new.at) v o.fresh) in
     let texts = ap (texts_of bytes) i ∙ map_push (spanned bytes) (vec_items names) new.name in
     (search (rules, one_less, texts, r, v), names_more bytes (vec_items names) (vec_items order) _ _ new.name new.at _ x f i put (sym count), omega arith, search rules, (c.insert.ensures.in_place room).1.0 ∙ c.loop-number.invariant.4)

@@ -3,7 +3,7 @@ use lib.ListN.{length-map}
 use Rattle.std.specs.declared.alloc.Global.{Global}
 use Rattle.wire.specs.Told.{spanned}
 use Rattle.tree_files.proofs.Names.{name_read}
-use Rattle.tree_files.proofs.read.parents.link_paths.Goals.{in-Some, in-default}
+use Rattle.tree_files.proofs.read.parents.link_paths.Goals.{in-Some, in_default}
 use Rattle.std.proofs.lemmas.List.{nil_from_length}
 use Rattle.tree_files.specs.Links.{Ends}
 use Rattle.tree_files.specs.Names.{texts_of}
@@ -29,18 +29,18 @@ loop-child-preserved c =
     let low : i < length texts = omega (arith, length-map names (spanned bytes), c.loop-child-test.true) in
     let P : Vec (ℕ × ℕ) Global → Type 0 = λ v.
     LinkedBelow texts (vec_items v) (i + 1) × Ends (length names) (vec_items v) × (vec_len v ≤ i + 1) × (vec_capacity v ≡ vec_capacity c.args.links.now) in
-    elim c.match-parent-node.branch [
+    elim c.match-parent_node.branch [
       | in-Some w ↦
           let n = w.in-Some.parent in
-          let e = w.push-reserved.ensures.items in
+          let e = w.push_reserved.ensures.items in
           let one = subst (λ u. ParentNode texts u (Some n)) path w.in-Some.ensures in
           let below : n < length names = omega (arith, one.0, length-map names (spanned bytes)) in
           subst P (sym w.links-is) (
             subst (λ l. LinkedBelow texts l (i + 1)) (sym e) (one_link texts c.loop-child.links.items i low inv.0 n one),
             subst (Ends (length names)) (sym e) (ends_push (length names) c.loop-child.links.items (n, i) inv.1 below c.loop-child-test.true),
-            omega (arith, w.push-reserved.ensures.len, inv.2),
-            w.push-reserved.ensures.capacity ∙ inv.3,
+            omega (arith, w.push_reserved.ensures.len, inv.2),
+            w.push_reserved.ensures.capacity ∙ inv.3,
           )
-      | in-default w ↦
-          subst P (sym w.links-is) (no_link texts c.loop-child.links.items i low inv.0 (subst (λ u. ParentNode texts u None) path w.in-default.ensures), inv.1, omega (arith, inv.2), inv.3)
+      | in_default w ↦
+          subst P (sym w.links-is) (no_link texts c.loop-child.links.items i low inv.0 (subst (λ u. ParentNode texts u None) path w.in_default.ensures), inv.1, omega (arith, inv.2), inv.3)
     ]

@@ -3,8 +3,8 @@ use Rattle.tree_files.specs.Segments.{Parent}
 use Rattle.tree_files.proofs.Segments.{no_separator, last_empty, last_parent}
 use Rattle.tree_files.proofs.read.parents.parent_path.Goals as goal
 
-pub returns-in-default : goal.returns-in-default
-returns-in-default c = no_separator c.args.path.now c.in-default.ensures
+pub returns-in_default : goal.returns-in_default
+returns-in_default c = no_separator c.args.path.now c.in_default.ensures
 
 pub returns-then-place-path : goal.returns-then-place-path
 returns-then-place-path c =

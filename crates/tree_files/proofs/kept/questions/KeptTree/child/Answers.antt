@@ -7,8 +7,8 @@ use Rattle.tree_files.proofs.kept.questions.KeptTree.child.Goals.{else-next-link
 
 pub returns-in-Ok : goal.returns-in-Ok
 returns-in-Ok c =
-    let links = c.as-slice-links.result.now in
-    let is = c.as-slice-links.ensures.value in
+    let links = c.as_slice-links.result.now in
+    let is = c.as_slice-links.ensures.value in
     let up : LinkAscending links = subst LinkAscending (sym is) c.args.self.now.sorted in
     let o = c.in-Ok.ensures in
     least_answer c.args.self.now c.args.node c.args.from (Some c.args.from) links is
@@ -16,8 +16,8 @@ returns-in-Ok c =
 
 pub returns-then-links-next : goal.returns-then-links-next
 returns-then-links-next c =
-    let links = c.as-slice-links.result.now in
-    let is = c.as-slice-links.ensures.value in
+    let links = c.as_slice-links.result.now in
+    let is = c.as_slice-links.ensures.value in
     let up : LinkAscending links = subst LinkAscending (sym is) c.args.self.now.sorted in
     let p = parted links up c.args.node c.args.from c.in-Err.next c.in-Err.ensures.position in
     least_answer c.args.self.now c.args.node c.args.from _ links is
@@ -25,8 +25,8 @@ returns-then-links-next c =
 
 pub returns-else-next-links : goal.returns-else-next-links
 returns-else-next-links c =
-    let links = c.as-slice-links.result.now in
-    let is = c.as-slice-links.ensures.value in
+    let links = c.as_slice-links.result.now in
+    let is = c.as_slice-links.ensures.value in
     let up : LinkAscending links = subst LinkAscending (sym is) c.args.self.now.sorted in
     let p = parted links up c.args.node c.args.from c.in-Err.next c.in-Err.ensures.position in
     least_answer c.args.self.now c.args.node c.args.from None links is

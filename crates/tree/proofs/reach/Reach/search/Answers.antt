@@ -6,7 +6,7 @@ use Rattle.tree.specs.Reaches.{Reaches}
 use Rattle.tree.proofs.Levels.{nodes_levels, levels_whole, depth_above}
 use Rattle.tree.proofs.Reaching.{reaches}
 use Rattle.tree.proofs.Walk.{levelled_none, levelled_more, levelled_stop}
-use Rattle.tree.proofs.reach.Reach.explore.Goals as goal
+use Rattle.tree.proofs.reach.Reach.search.Goals as goal
 
 -- what holds of all levels
 nodes_then : (tree : Tree) (x : Extent) (a : _) (rs : List Reached) → rs ≡ levels_at tree a 0 (depth tree x) → nodes_reached rs ≡ reached tree x a

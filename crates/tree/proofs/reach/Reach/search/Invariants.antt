@@ -1,6 +1,6 @@
 use Rattle.std.proofs.Common.{vec_items}
 use Rattle.tree.proofs.Walk.{Levelled}
-use Rattle.tree.proofs.reach.Reach.explore.Given as goal
+use Rattle.tree.proofs.reach.Reach.search.Given as goal
 
 -- the levels to `distance` are reached
 abbrev pub invariant-loop-distance : goal.invariant-loop-distance
