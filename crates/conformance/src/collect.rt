@@ -24,7 +24,7 @@ pub fn all_rows<T: Tree, P: DecisionPoint>(
     tree: &T,
     point: &P,
 ) -> Result<Vec<Row>, Stop>
-    ensures { MatchResult result (λ v. Complete (meaning tree.now) (answer point.now) (read_request bytes.now) (rows_of v.items)) (λ stop. Stopped (read_request bytes.now) stop) }
+    ensures { MatchResult result (λ v. Complete (T.meaning tree.now) (P.answer point.now) (read_request bytes.now) (rows_of v.items)) (λ stop. Stopped (read_request bytes.now) stop) }
 {
     let Ok(mut enquiry) = Enquiry::new(heap) else {
         return Err(Stop::NoMemory);

@@ -43,7 +43,7 @@ impl Cursor {
 
     // The nodes reached are those that links lead to from this one; what is there already is not explored again.
     fn explore<T: Tree>(&mut self, tree: &T, extent: Extent, node: usize)
-        ensures reaches { Explored (meaning tree.now) self.old → Reaches (meaning tree.now) (extent_of extent) node self.new }
+        ensures reaches { Explored (T.meaning tree.now) self.old → Reaches (T.meaning tree.now) (extent_of extent) node self.new }
         ensures unmoved { Unmoved self.old self.new }
         ensures chosen { self.new.chosen ≡ self.old.chosen }
     {
@@ -57,7 +57,7 @@ impl Cursor {
 
     // Stands before the first row of the present choice.
     fn settle<T: Tree>(&mut self, request: &Request<'_>, tree: &T)
-        ensures { Settles (meaning tree.now) (content_of request.now) self.old self.new }
+        ensures { Settles (T.meaning tree.now) (content_of request.now) self.old self.new }
     {
         self.chosen = chosen(request, &self.listed, &self.choice);
         let Some(element) = resource(request, &self.chosen) else {
@@ -76,7 +76,7 @@ impl Cursor {
 
     // Stands before the first row of this reference, or past the last row where there is no such reference.
     fn enter<T: Tree>(&mut self, request: &Request<'_>, tree: &T, reference: usize)
-        ensures { Enters (meaning tree.now) (content_of request.now) reference self.old self.new }
+        ensures { Enters (T.meaning tree.now) (content_of request.now) reference self.old self.new }
     {
         self.reference = reference;
         let Some(listing) = list(request, reference) else {
@@ -96,7 +96,7 @@ impl Cursor {
 
     // Stands before the first row of a request.
     pub fn start<T: Tree>(&mut self, request: &Request<'_>, tree: &T)
-        ensures { Before (meaning tree.now) (content_of request.now) (spots (content_of request.now) (meaning tree.now)) self.new }
+        ensures { Before (T.meaning tree.now) (content_of request.now) (spots (content_of request.now) (T.meaning tree.now)) self.new }
     {
         self.explored = None;
         self.enter(request, tree, 0);
@@ -104,7 +104,7 @@ impl Cursor {
 
     // Stands before the first row of the next choice, or else of the next reference.
     fn leave_choice<T: Tree>(&mut self, request: &Request<'_>, tree: &T)
-        ensures { Leaves (meaning tree.now) (content_of request.now) self.old self.new }
+        ensures { Leaves (T.meaning tree.now) (content_of request.now) self.old self.new }
     {
         match next(&self.widths, &self.choice) {
             Some(choice) => {
@@ -117,7 +117,7 @@ impl Cursor {
 
     // Stands before the row after the next one.
     pub fn advance<T: Tree>(&mut self, request: &Request<'_>, tree: &T)
-        ensures { Advances (meaning tree.now) (content_of request.now) self.old self.new }
+        ensures { Advances (T.meaning tree.now) (content_of request.now) self.old self.new }
     {
         match self.stand {
             Stand::Ended => {}

@@ -29,7 +29,7 @@ fn decide<T: Tree, P: DecisionPoint>(
     tree: &T,
     point: &P,
 ) -> (Decision, Status, u16)
-    ensures { past (held chosen.now) ≤ length (content_of request.now).elements → answered result ≡ answer point.now (single_request (meaning tree.now) node (listed_of (content_of request.now).elements (held chosen.now))) }
+    ensures { past (held chosen.now) ≤ length (content_of request.now).elements → answered result ≡ answer point.now (single_request (T.meaning tree.now) node (listed_of (content_of request.now).elements (held chosen.now))) }
 {
     let Some(single) = put(request, chosen) else {
         // A number that names no element: no cursor over the request has one.
@@ -57,7 +57,7 @@ pub(crate) fn row_at<T: Tree, P: DecisionPoint>(
     tree: &T,
     point: &P,
 ) -> Row
-    ensures { BasisNames (content_of request.now).elements spot.basis → row_of result ≡ row_at_spot (answer point.now) (spot_of (meaning tree.now) (content_of request.now).elements spot) }
+    ensures { BasisNames (content_of request.now).elements spot.basis → row_of result ≡ row_at_spot (P.answer point.now) (spot_of (T.meaning tree.now) (content_of request.now).elements spot) }
 {
     match spot.basis {
         Basis::Fault(cause, place) => Row {
@@ -92,7 +92,7 @@ pub(crate) fn write<T: Tree>(
     tree: &T,
     buffer: &mut [u8],
 ) -> Result<usize, TooShort>
-    ensures writes { past (held chosen.now) ≤ length (content_of request.now).elements → Writes (bytes_for (single_request (meaning tree.now) node (listed_of (content_of request.now).elements (held chosen.now)))) buffer.old result buffer.new }
+    ensures writes { past (held chosen.now) ≤ length (content_of request.now).elements → Writes (bytes_for (single_request (T.meaning tree.now) node (listed_of (content_of request.now).elements (held chosen.now)))) buffer.old result buffer.new }
     ensures left { Left result buffer.old buffer.new }
 {
     let Some(single) = put(request, chosen) else {

@@ -42,7 +42,7 @@ impl<'a> Enquiry<'a> {
 
     // Stands before the first row of the request that is held.
     fn restart<T: Tree>(&mut self, tree: &T)
-        ensures starts { Source (content self.old) → Starts (meaning tree.now) self.new }
+        ensures starts { Source (content self.old) → Starts (T.meaning tree.now) self.new }
         ensures same { self.new.request ≡ self.old.request }
     {
         self.cursor.start(&self.request, tree);
@@ -55,8 +55,8 @@ impl<'a> Enquiry<'a> {
         ensures answer { answered in_request_fault (content self.new) result ≡ read_request bytes.now }
         ensures spelled { Opened SpellingOf bytes.now (content self.new) result }
         ensures held { bytes_of self.new.request ≡ bytes_held result bytes.now self.old.request }
-        ensures opens { Opens (meaning tree.now) self.old result self.new }
-        ensures law { Lawful (meaning tree.now) result self.new }
+        ensures opens { Opens (T.meaning tree.now) self.old result self.new }
+        ensures law { Lawful (T.meaning tree.now) result self.new }
     {
         self.request.open(bytes)?;
         self.restart(tree);
@@ -76,7 +76,7 @@ impl<'a> Enquiry<'a> {
         tree: &T,
         point: &P,
     ) -> Result<Row, CallRefusal>
-        ensures { Works (meaning tree.now) (answer point.now) self.old stepping (step_told result) self.new }
+        ensures { Works (T.meaning tree.now) (P.answer point.now) self.old stepping (step_told result) self.new }
     {
         let Some(spot) = self.cursor.spot() else {
             return Err(CallRefusal::Ended);
@@ -90,7 +90,7 @@ impl<'a> Enquiry<'a> {
 
     // Writes the next row's single request at the start of the buffer and answers its length; no later byte is touched.
     pub fn show<T: Tree>(&self, tree: &T, buffer: &mut [u8]) -> Result<usize, CallRefusal>
-        ensures shows { (point : Point) → Works (meaning tree.now) point self.now (showing buffer.old) (show_told result buffer.new) self.now }
+        ensures shows { (point : Point) → Works (T.meaning tree.now) point self.now (showing buffer.old) (show_told result buffer.new) self.now }
         ensures left { Left result buffer.old buffer.new }
     {
         let Some(spot) = self.cursor.spot() else {
@@ -107,7 +107,7 @@ impl<'a> Enquiry<'a> {
 
     // Stands before the first row again.
     pub fn rewind<T: Tree>(&mut self, tree: &T)
-        ensures { (point : Point) → Works (meaning tree.now) point self.old rewinding rewound self.new }
+        ensures { (point : Point) → Works (T.meaning tree.now) point self.old rewinding rewound self.new }
     {
         self.restart(tree);
     }

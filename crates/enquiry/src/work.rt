@@ -36,7 +36,7 @@ pub enum Reply {
 impl<'a> Enquiry<'a> {
     // Shows into a buffer of its own, of so many zeros.
     fn show_zeros<T: Tree>(&self, heap: Global, tree: &T, size: usize) -> Result<Reply, AllocError>
-        ensures { IfOk result (λ reply. (point : Point) → Works (meaning tree.now) point self.now (showing (replicate size 0)) (reply_of reply) self.now) }
+        ensures { IfOk result (λ reply. (point : Point) → Works (T.meaning tree.now) point self.now (showing (replicate size 0)) (reply_of reply) self.now) }
     {
         let mut buffer = vec![in heap; 0; size]?;
         match self.show(tree, buffer.as_mut_slice()) {
@@ -52,7 +52,7 @@ impl<'a> Enquiry<'a> {
         point: &P,
         call: Call,
     ) -> Result<Reply, AllocError>
-        ensures { IfOk result (λ reply. Works (meaning tree.now) (answer point.now) self.old (call_of call) (reply_of reply) self.new) }
+        ensures { IfOk result (λ reply. Works (T.meaning tree.now) (P.answer point.now) self.old (call_of call) (reply_of reply) self.new) }
     {
         match call {
             Call::Step => match self.step(tree, point) {
@@ -82,7 +82,7 @@ impl<'a> Enquiry<'a> {
         point: &P,
         calls: &[Call],
     ) -> Result<Vec<Reply>, AllocError>
-        ensures { IfOk result (λ replies. Worked (meaning tree.now) (answer point.now) self.old (calls_of calls.now) (replies_of replies.items) self.new) }
+        ensures { IfOk result (λ replies. Worked (T.meaning tree.now) (P.answer point.now) self.old (calls_of calls.now) (replies_of replies.items) self.new) }
     {
         let mut replies = Vec::new(heap);
         for call in calls {

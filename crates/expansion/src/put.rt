@@ -29,7 +29,7 @@ pub fn put_at<'r, 'a, 'm, T: Tree>(
     tree: &'m T,
     node: usize,
 ) -> Option<SingleRequest<'r, 'a, 'm>>
-    ensures { (ls : List Listed) → chosen_of single.now ≡ map element_of ls → option_map content result ≡ at_node (meaning tree.now) node ls }
+    ensures { (ls : List Listed) → chosen_of single.now ≡ map element_of ls → option_map content result ≡ at_node (T.meaning tree.now) node ls }
 {
     match tree.name(node) {
         Some(name) => Some(single.at(name)),
@@ -43,7 +43,7 @@ pub fn put_reached<'r, 'a, 'm, T: Tree>(
     tree: &'m T,
     node: usize,
 ) -> SingleRequest<'r, 'a, 'm>
-    ensures { (ls : List Listed) → chosen_of single.now ≡ map element_of ls → content result ≡ single_request (meaning tree.now) (Some node) ls }
+    ensures { (ls : List Listed) → chosen_of single.now ≡ map element_of ls → content result ≡ single_request (T.meaning tree.now) (Some node) ls }
 {
     match tree.name(node) {
         Some(name) => single.at(name),

@@ -46,7 +46,7 @@ fn only_with(attributes: &[Attribute], id: u8) -> Only
 
 // From the node that the one resource-id names.
 fn from_node<T: Tree>(request: &Request, extent: Extent, id: Only, tree: &T) -> Scope
-    ensures { scope_of result ≡ asked_only (meaning tree.now) (bytes_of request.now) (extent_of extent) id }
+    ensures { scope_of result ≡ asked_only (T.meaning tree.now) (bytes_of request.now) (extent_of extent) id }
 {
     let Only::One(id) = id else {
         return Scope::Faulty(Cause::NoSingleResourceId);
@@ -59,7 +59,7 @@ fn from_node<T: Tree>(request: &Request, extent: Extent, id: Only, tree: &T) -> 
 
 // What the one scope asks for.
 fn by_scope<T: Tree>(request: &Request, scope: Attribute, id: Only, tree: &T) -> Scope
-    ensures { scope_of result ≡ asked_by (meaning tree.now) (bytes_of request.now) id scope }
+    ensures { scope_of result ≡ asked_by (T.meaning tree.now) (bytes_of request.now) id scope }
 {
     if scope.data_type != STRING {
         return Scope::Faulty(Cause::BadScope);
@@ -79,7 +79,7 @@ fn by_scope<T: Tree>(request: &Request, scope: Attribute, id: Only, tree: &T) ->
 
 // What the resource element of this number asks for.
 pub fn scope<T: Tree>(request: &Request, element: usize, tree: &T) -> Scope
-    ensures { scope_of result ≡ scope_by_attributes (meaning tree.now) (numbered (content_of request.now).elements element) }
+    ensures { scope_of result ≡ scope_by_attributes (T.meaning tree.now) (numbered (content_of request.now).elements element) }
 {
     let attributes = request.attributes(element);
     let id = only_with(attributes, RESOURCE_ID);

@@ -15,7 +15,7 @@ pub loop-code-preserved-then-contains : goal.loop-code-preserved-then-contains
 loop-code-preserved-then-contains c =
     let xs = c.args.codes.now in
     let i = c.loop-code.code-index in
-    let e : any (eqb (get_or xs i 0)) (held c.loop-code.seen) ≡ true = sym (ap (any (eqb (get_or xs i 0))) c.as-slice.ensures) ∙ sym c.if-contains.ensures in
+    let e : any (eqb (get_or xs i 0)) (held c.loop-code.seen) ≡ true = sym (ap (any (eqb (get_or xs i 0))) c.as_slice.ensures) ∙ sym c.if-contains.ensures in
     (sym (firsts_skip (held c.loop-code.seen) xs i c.loop-code-test.true e) ∙ c.loop-code.invariant.0, omega arith)
 
 pub push-requires : goal.push-requires
@@ -26,7 +26,7 @@ loop-code-preserved c =
     let xs = c.args.codes.now in
     let i = c.loop-code.code-index in
     let seen = held c.loop-code.seen in
-    let e : any (eqb (get_or xs i 0)) seen ≡ false = sym (ap (any (eqb (get_or xs i 0))) c.as-slice.ensures) ∙ sym c.if-contains.ensures in (
+    let e : any (eqb (get_or xs i 0)) seen ≡ false = sym (ap (any (eqb (get_or xs i 0))) c.as_slice.ensures) ∙ sym c.if-contains.ensures in (
       sym (firsts_add seen xs i (held c.push.new.self) c.loop-code-test.true e c.push.ensures) ∙ c.loop-code.invariant.0,
       omega (arith, ap length c.push.ensures, length_push seen (get_or xs i 0)),
     )

@@ -11,15 +11,15 @@ loop-category-init c = c.new-choice.ensures
 
 pub push-requires : goal.push-requires
 push-requires c =
-    omega (arith, ap length c.loop-category.invariant, length-replicate {A = ℕ} c.loop-category.-category 0, ap length c.as-slice-count.ensures, held_few c.args.widths.now)
+    omega (arith, ap length c.loop-category.invariant, length-replicate {A = ℕ} c.loop-category._category 0, ap length c.as_slice-count.ensures, held_few c.args.widths.now)
 
 pub loop-category-preserved : goal.loop-category-preserved
-loop-category-preserved c = c.push.ensures ∙ ap (λ l. l ++ 0 ∷ []) c.loop-category.invariant ∙ replicate_more c.loop-category.-category 0
+loop-category-preserved c = c.push.ensures ∙ ap (λ l. l ++ 0 ∷ []) c.loop-category.invariant ∙ replicate_more c.loop-category._category 0
 
 pub returns : goal.returns
 returns c =
     let ws = held c.args.widths.now in
-    let n : c.loop-category.-category ≡ length ws = omega (arith, ap length c.as-slice-count.ensures) in
+    let n : c.loop-category._category ≡ length ws = omega (arith, ap length c.as_slice-count.ensures) in
     let f = c.loop-category.invariant ∙ ap (λ k. replicate k 0) n in
     record {
       first = f;

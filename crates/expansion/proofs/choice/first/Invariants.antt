@@ -3,4 +3,4 @@ use Rattle.expansion.specs.Few.{held}
 use Rattle.expansion.proofs.choice.first.Given as goal
 
 abbrev pub invariant-loop-category : goal.invariant-loop-category
-invariant-loop-category l = held l.choice ≡ replicate l.-category 0
+invariant-loop-category l = held l.choice ≡ replicate l._category 0

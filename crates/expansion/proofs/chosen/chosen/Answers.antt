@@ -9,8 +9,8 @@ use Rattle.expansion.proofs.chosen.chosen.Goals as goal
 
 pub pick-requires : goal.pick-requires
 pick-requires c =
-    let a = ap length c.as-slice-numbers.ensures in
-    let b = ap length c.as-slice.ensures in
+    let a = ap length c.as_slice-numbers.ensures in
+    let b = ap length c.as_slice.ensures in
     let d = ap length c.codes-each.ensures in
     let e = length-map (held c.args.listed.now) (code_at (content_of c.args.request.now).elements) in
     record { few = omega (arith, a, held_few c.args.listed.now); beside = omega (arith, a, b, d, e) }
@@ -21,5 +21,5 @@ returns c =
     let ps = held c.args.choice.now in
     let codes = held c.codes-each.result in
     let new = held c.pick.result in
-    let e = picks_over ps ks codes c.as-slice-positions.result.now c.as-slice-numbers.result.now c.as-slice.result.now new c.as-slice-positions.ensures c.as-slice-numbers.ensures c.as-slice.ensures c.pick.ensures in
+    let e = picks_over ps ks codes c.as_slice-positions.result.now c.as_slice-numbers.result.now c.as_slice.result.now new c.as_slice-positions.ensures c.as_slice-numbers.ensures c.as_slice.ensures c.pick.ensures in
     record { chosen = chosen_is (content_of c.args.request.now).elements ps ks codes new c.codes-each.ensures e; names = chosen_named ps ks codes new e }

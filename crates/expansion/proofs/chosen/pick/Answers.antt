@@ -9,7 +9,7 @@ use Rattle.expansion.proofs.chosen.pick.Goals as goal
 pub loop-i-init : goal.loop-i-init
 loop-i-init c =
     let e = c.new-picked.ensures in
-    (ap (λ l. l ++ picks c.as-slice-categories.result.now c.args.positions.now [] c.args.numbers.now c.args.codes.now) e, omega (arith, ap length e))
+    (ap (λ l. l ++ picks c.as_slice-categories.result.now c.args.positions.now [] c.args.numbers.now c.args.codes.now) e, omega (arith, ap length e))
 
 pub push-requires : goal.push-requires
 push-requires c = omega (arith, c.requires.few)
@@ -17,7 +17,7 @@ push-requires c = omega (arith, c.requires.few)
 pub loop-i-preserved-then-before-position : goal.loop-i-preserved-then-before-position
 loop-i-preserved-then-before-position c =
     let i = c.loop-i.i in
-    let cs = c.as-slice-categories.result.now in
+    let cs = c.as_slice-categories.result.now in
     let codes = c.args.codes.now in
     let z : i - 0 ≡ i = omega arith in
     let hk : i < length c.args.numbers.now = omega arith in
@@ -30,7 +30,7 @@ loop-i-preserved-then-before-position c =
 pub loop-i-preserved : goal.loop-i-preserved
 loop-i-preserved c =
     let i = c.loop-i.i in
-    let cs = c.as-slice-categories.result.now in
+    let cs = c.as_slice-categories.result.now in
     let codes = c.args.codes.now in
     let z : i - 0 ≡ i = omega arith in
     let hk : i < length c.args.numbers.now = omega arith in
@@ -42,7 +42,7 @@ loop-i-preserved c =
 
 pub returns : goal.returns
 returns c =
-    let cs = c.as-slice-categories.result.now in
+    let cs = c.as_slice-categories.result.now in
     sym (pick_all cs c.args.positions.now c.args.numbers.now c.args.codes.now (held c.loop-i.picked) c.loop-i.i (omega arith))
     ∙ c.loop-i.invariant.0
-    ∙ ap (λ l. picks l c.args.positions.now [] c.args.numbers.now c.args.codes.now) (c.as-slice-categories.ensures ∙ c.firsts-seen.ensures)
+    ∙ ap (λ l. picks l c.args.positions.now [] c.args.numbers.now c.args.codes.now) (c.as_slice-categories.ensures ∙ c.firsts-seen.ensures)

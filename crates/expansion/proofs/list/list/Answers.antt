@@ -21,26 +21,26 @@ returns-then-reference-gt0 c =
     record {
       lists =
           sym (nth_one_past (lists (all_listed (content_of p))) c.args.reference c.if-reference-gt0.true)
-          ∙ ap (λ o. nth (listings_by (all_listed (content_of p)) o) c.args.reference) c.in-default.ensures;
+          ∙ ap (λ o. nth (listings_by (all_listed (content_of p)) o) c.args.reference) c.in_default.ensures;
       names = tt;
     }
 
-pub all-below-requires : goal.all-below-requires
-all-below-requires c = few_shown c.args.request.now c.elements.result.now c.elements.ensures
+pub all_below-requires : goal.all_below-requires
+all_below-requires c = few_shown c.args.request.now c.elements.result.now c.elements.ensures
 
-pub returns-in-default : goal.returns-in-default
-returns-in-default c =
+pub returns-in_default : goal.returns-in_default
+returns-in_default c =
     let p = c.args.request.now in
     let es = (content_of p).elements in
     let hs = c.elements.result.now in
     let n = shown_length p.bytes.now p.index.attributes.items hs es c.elements.ensures in
-    let e = c.all-below.ensures ∙ ap (upto 0) n in
+    let e = c.all_below.ensures ∙ ap (upto 0) n in
     record {
       lists =
           ap (λ l. Some (lists (listed_of es l))) e
           ∙ ap (λ l. Some (lists l)) (sym (all_are es))
           ∙ sym (nth_one (lists (all_listed (content_of p))) c.args.reference (omega arith))
-          ∙ ap (λ o. nth (listings_by (all_listed (content_of p)) o) c.args.reference) c.in-default.ensures;
+          ∙ ap (λ o. nth (listings_by (all_listed (content_of p)) o) c.args.reference) c.in_default.ensures;
       names = omega (arith, ap past e, past_upto 0 (length es) (length es) (omega arith));
     }
 
@@ -54,8 +54,8 @@ returns-then-reference-references c =
       names = tt;
     }
 
-pub with-tags-requires : goal.with-tags-requires
-with-tags-requires c =
+pub with_tags-requires : goal.with_tags-requires
+with_tags-requires c =
     let p = c.args.request.now in
     let s = tags_few p.index.tags.items p.index.referenced p.index.references.items c.in-Some.references.now p.index.few_tags c.in-Some.ensures c.args.reference nowhere c.if-reference-references.false in
     omega (arith, ap length c.tags.ensures, s)
@@ -66,8 +66,8 @@ returns c =
     let all = all_listed (content_of p) in
     record {
       lists =
-          ap Some (c.with-tags.ensures.lists ∙ ap (listing all 0) c.tags.ensures)
+          ap Some (c.with_tags.ensures.lists ∙ ap (listing all 0) c.tags.ensures)
           ∙ sym (nth_maps (listing all 0) (part p.index.tags.items) c.in-Some.references.now c.args.reference nowhere c.if-reference-references.false)
           ∙ ap (λ o. nth (listings_by all o) c.args.reference) c.in-Some.ensures;
-      names = c.with-tags.ensures.names;
+      names = c.with_tags.ensures.names;
     }

@@ -9,8 +9,8 @@ use Rattle.expansion.proofs.Fews.{past_push}
 use Rattle.expansion.proofs.Naming.{onto, first_below, shown_length, one_unknown, one_listed, all_tags, onto_none, few_shown}
 use Rattle.expansion.proofs.list.with_tags.Goals as goal
 
-pub number-with-requires : goal.number-with-requires
-number-with-requires c = few_shown c.args.request.now c.elements-elements.result.now c.elements-elements.ensures
+pub number_with-requires : goal.number_with-requires
+number_with-requires c = few_shown c.args.request.now c.elements-elements.result.now c.elements-elements.ensures
 
 pub loop-position-init : goal.loop-position-init
 loop-position-init c =
@@ -22,12 +22,12 @@ loop-position-init c =
       omega (arith, ap past e),
     )
 
-pub returns-in-default : goal.returns-in-default
-returns-in-default c =
+pub returns-in_default : goal.returns-in_default
+returns-in_default c =
     let p = c.args.request.now in
     let h : c.loop-position.position < length c.args.tags.now = omega arith in
     record {
-      lists = sym (one_unknown p.bytes.now p.index.attributes.items c.elements-elements.result.now (content_of p).elements c.elements-elements.ensures c.args.tags.now c.loop-position.position h (held c.loop-position.listed) c.in-default.ensures) ∙ c.loop-position.invariant.0;
+      lists = sym (one_unknown p.bytes.now p.index.attributes.items c.elements-elements.result.now (content_of p).elements c.elements-elements.ensures c.args.tags.now c.loop-position.position h (held c.loop-position.listed) c.in_default.ensures) ∙ c.loop-position.invariant.0;
       names = tt;
     }
 
