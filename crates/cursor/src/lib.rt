@@ -1,3 +1,5 @@
+#![tactic(auto)]
+
 pub mod cursor;
 pub mod moves;
 pub mod spot;

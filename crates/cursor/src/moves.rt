@@ -51,7 +51,7 @@ impl Cursor {
         if self.explored == Some(wanted) {
             return;
         }
-        self.reach.explore(tree, node, extent);
+        self.reach.search(tree, node, extent);
         self.explored = Some(wanted);
     }
 

@@ -15,7 +15,7 @@ use crate::row::Row;
 use cursor::spot::{Basis, Spot};
 use decision::point::DecisionPoint;
 use expansion::few::Few;
-use expansion::put::{put, put_at};
+use expansion::put::{put, put_reached};
 use model::decision::{Cause, Decision, Status};
 use request::request::Request;
 use single::short::TooShort;
@@ -36,7 +36,7 @@ fn decide<T: Tree, P: DecisionPoint>(
         return (Decision::Indeterminate, Status::ProcessingError, 0);
     };
     match node {
-        Some(node) => point.decide(&put_at(&single, tree, node)),
+        Some(node) => point.decide(&put_reached(&single, tree, node)),
         None => point.decide(&single),
     }
 }
@@ -99,7 +99,7 @@ pub(crate) fn write<T: Tree>(
         return Err(TooShort { needed: 0 });
     };
     match node {
-        Some(node) => put_at(&single, tree, node).write(buffer),
+        Some(node) => put_reached(&single, tree, node).write(buffer),
         None => single.write(buffer),
     }
 }

@@ -62,6 +62,6 @@ fn reach<T: Tree>(rt: &HostRuntime, tree: &T, asked: Asked) -> Result<(), Failed
         return Err(Failed);
     };
     let mut reach = Reach::new(rt.alloc())?;
-    reach.explore(tree, node, extent);
+    reach.search(tree, node, extent);
     Ok(print_reached(rt, tree, reach.nodes(), tsv)?)
 }

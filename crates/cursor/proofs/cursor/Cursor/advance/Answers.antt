@@ -6,8 +6,8 @@ use Rattle.cursor.specs.Ahead.{nodes_of, later}
 use Rattle.cursor.proofs.Rows.{at_node, node_here, last_node}
 use Rattle.cursor.proofs.cursor.Cursor.advance.Goals as goal
 
-pub returns-then-place-saturating-sub : goal.returns-then-place-saturating-sub
-returns-then-place-saturating-sub g c = λ few over.
+pub returns-then-place-saturating_sub : goal.returns-then-place-saturating_sub
+returns-then-place-saturating_sub g c = λ few over.
     let tree = g.T.Tree.meaning c.args.tree.now in
     let q = content_of c.args.request.now in
     let self = c.args.self.now in
@@ -32,8 +32,8 @@ returns-then-place-saturating-sub g c = λ few over.
       ahead = sym (ap later (node_here tree q self i c.in-Node.is stands.1));
     }
 
-pub returns-else-place-saturating-sub : goal.returns-else-place-saturating-sub
-returns-else-place-saturating-sub g c = λ few over.
+pub returns-else-place-saturating_sub : goal.returns-else-place-saturating_sub
+returns-else-place-saturating_sub g c = λ few over.
     let tree = g.T.Tree.meaning c.args.tree.now in
     let q = content_of c.args.request.now in
     let self = c.args.self.now in
@@ -42,7 +42,7 @@ returns-else-place-saturating-sub g c = λ few over.
     let n = length-map c.nodes.result.now node_of in
     let m = ap (λ l. length (nodes_reached l)) c.nodes.ensures in
     let last : length (nodes_of self) ≤ i + 1 = omega (arith, n, m) in
-    let before = c.leave-choice.ensures few over.explored stands.0.choosing in
+    let before = c.leave_choice.ensures few over.explored stands.0.choosing in
     record {
       over = before.over;
       ahead = before.ahead ∙ sym (ap later (node_here tree q self i c.in-Node.is stands.1) ∙ last_node tree q self i last);

@@ -9,13 +9,13 @@ use Rattle.cursor.specs.Ahead.{from_reference}
 use Rattle.cursor.proofs.Rows.{nth_some, reference_past, reference_here, first_choice}
 use Rattle.cursor.proofs.cursor.Cursor.enter.Goals as goal
 
-pub returns-in-default : goal.returns-in-default
-returns-in-default g c = λ explored.
+pub returns-in_default : goal.returns-in_default
+returns-in_default g c = λ explored.
     let tree = g.T.Tree.meaning c.args.tree.now in
     let q = content_of c.args.request.now in
     record {
       over = record { explored = explored; stands = tt };
-      ahead = sym (reference_past tree q c.args.reference (sym c.in-default.ensures.lists));
+      ahead = sym (reference_past tree q c.args.reference (sym c.in_default.ensures.lists));
     }
 
 pub returns-in-Unknown : goal.returns-in-Unknown

@@ -25,8 +25,8 @@ returns-else-place-nodes c = λ tree q o.
     ∙ get_or-map node_of c.nodes-nodes.result.now i (record { node = 0; distance = 0 }) 0 h in
     record {
       next =
-          ap (λ s. Some (spot_of tree q.elements s)) c.in-choice-in-Node.ensures
+          ap (λ s. Some (spot_of tree q.elements s)) c.in_choice-in-Node.ensures
           ∙ ap (λ k. Some (node_spot tree self.reference (held self.choice) (chosen q self) k)) (sym n)
           ∙ sym (ap next_of (node_here tree q self i c.in-Node.is stands.1));
-      names = subst (λ s. BasisNames q.elements s.basis) (sym c.in-choice-in-Node.ensures) stands.0.named;
+      names = subst (λ s. BasisNames q.elements s.basis) (sym c.in_choice-in-Node.ensures) stands.0.named;
     }
