@@ -29,7 +29,7 @@ fn decide<T: Tree, P: DecisionPoint>(
     tree: &T,
     point: &P,
 ) -> (Decision, Status, u16)
-    ensures { past (held chosen.now) ≤ length (content_of request.now).elements → answered result ≡ answer point.now (single_request (T.meaning tree.now) node (listed_of (content_of request.now).elements (held chosen.now))) }
+    ensures { past (held chosen.now) ≤ length (content_of request.now).elements → answered result ≡ P.answer point.now (single_request (T.meaning tree.now) node (listed_of (content_of request.now).elements (held chosen.now))) }
 {
     let Some(single) = put(request, chosen) else {
         // A number that names no element: no cursor over the request has one.

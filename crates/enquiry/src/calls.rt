@@ -1,6 +1,5 @@
 ghost use Rattle.std.specs.Prelude.{◌≡◌, IfOk};
 ghost use Rattle.model.specs.Content.{read_request};
-ghost use Rattle.model.specs.Spelling.{SpellingOf};
 ghost use Rattle.model.specs.Tree.{Tree as Meaning};
 ghost use Rattle.model.specs.Points.{Point};
 ghost use Rattle.model.specs.Law.{step as stepping, show as showing, rewind as rewinding, rewound, verdict as judging};
@@ -53,7 +52,7 @@ impl<'a> Enquiry<'a> {
     // Reads the request that the bytes spell and stands before its first row over this tree; a refusal leaves all as it was.
     pub fn open<T: Tree>(&mut self, bytes: &'a [u8], tree: &T) -> Result<(), RequestFault>
         ensures answer { answered in_request_fault (content self.new) result ≡ read_request bytes.now }
-        ensures spelled { Opened SpellingOf bytes.now (content self.new) result }
+        ensures spelled { Opened bytes.now (content self.new) result }
         ensures held { bytes_of self.new.request ≡ bytes_held result bytes.now self.old.request }
         ensures opens { Opens (T.meaning tree.now) self.old result self.new }
         ensures law { Lawful (T.meaning tree.now) result self.new }

@@ -18,8 +18,8 @@ returns-in-Ok g c = λ standing. this_call _ _ _ _ _ _ _ c.in-Step.is (c.in-Ok.e
 pub returns-in-Err : goal.returns-in-Err
 returns-in-Err g c = λ standing. this_call _ _ _ _ _ _ _ c.in-Step.is (c.in-Err.ensures standing)
 
-pub returns-in-ok-reply : goal.returns-in-ok-reply
-returns-in-ok-reply g c = λ standing. this_call _ _ _ _ _ _ _ c.in-Show.is (c.in-ok-reply.ensures _ standing)
+pub returns-in_ok-reply-in-Show : goal.returns-in_ok-reply-in-Show
+returns-in_ok-reply-in-Show g c = λ standing. this_call _ _ _ _ _ _ _ c.in-Show.is (c.in_ok-reply-in-Show.ensures _ standing)
 
 pub returns-in-Rewind : goal.returns-in-Rewind
 returns-in-Rewind g c = λ standing. this_call _ _ _ _ _ _ _ c.in-Rewind.is (c.rewind.ensures _ standing)

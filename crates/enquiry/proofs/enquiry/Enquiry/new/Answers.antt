@@ -7,10 +7,10 @@ use Rattle.enquiry.proofs.enquiry.Enquiry.new.Goals as goal
 
 pub returns : goal.returns
 returns c =
-    let empty = c.in-ok-request.ensures in
+    let empty = c.in_ok-request.ensures in
     record {
       empty = empty;
       starts = λ tree.
-          let before = c.in-ok-cursor.ensures tree (content_of c.in-ok-request.request) in
+          let before = c.in_ok-cursor.ensures tree (content_of c.in_ok-request.request) in
           starts tree _ (nothing empty) (record { over = before.over; ahead = before.ahead ∙ ap (λ q. spots q tree) (sym empty) }) refl refl;
     }

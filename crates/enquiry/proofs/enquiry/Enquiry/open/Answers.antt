@@ -10,7 +10,7 @@ pub returns : goal.returns
 returns g c =
     let tree = g.T.Tree.meaning c.args.tree.now in
     let bytes = c.args.bytes.now in
-    let opened = c.in-ok-open.ensures in
+    let opened = c.in_ok-open.ensures in
     let same = c.restart.ensures.same in
     let reads : Ok (content c.restart.new.self) ≡ read_request bytes = ap (λ r. Ok (content_of r)) same ∙ opened.answer in
     let first = c.restart.ensures.starts (read bytes (sym opened.answer)) in

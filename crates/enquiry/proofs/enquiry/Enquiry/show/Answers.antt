@@ -7,26 +7,26 @@ use Rattle.enquiry.specs.Calls.{content}
 use Rattle.enquiry.proofs.Standing.{next_is, show_ended, show_fault, show_on}
 use Rattle.enquiry.proofs.enquiry.Enquiry.show.Goals as goal
 
-pub returns-in-default : goal.returns-in-default
-returns-in-default g c = record {
+pub returns-in_default : goal.returns-in_default
+returns-in_default g c = record {
   shows = λ point standing.
       let tree = g.T.Tree.meaning c.args.tree.now in
       let self = c.args.self.now in
-      let tells = c.in-default.ensures tree (content self) standing.over in
+      let tells = c.in_default.ensures tree (content self) standing.over in
       show_ended tree point self standing c.args.buffer.now (next_is tree point self standing None tells.next);
   left = refl;
 }
 
-pub returns-in-default-basis : goal.returns-in-default-basis
-returns-in-default-basis g c = record {
+pub returns-in_default-basis : goal.returns-in_default-basis
+returns-in_default-basis g c = record {
   shows = λ point standing.
       let tree = g.T.Tree.meaning c.args.tree.now in
       let self = c.args.self.now in
       let es = (content self).elements in
       let spot = c.in-Some.spot in
       let tells = c.in-Some.ensures tree (content self) standing.over in
-      show_fault tree point self standing c.args.buffer.now (spot_of tree es spot) c.in-default-basis.field-0 c.in-default-basis.field-1
-      (next_is tree point self standing (Some (spot_of tree es spot)) tells.next) (ap (basis_of tree es spot.node) c.in-default-basis.is);
+      show_fault tree point self standing c.args.buffer.now (spot_of tree es spot) c.in_default-basis.field-0 c.in_default-basis.field-1
+      (next_is tree point self standing (Some (spot_of tree es spot)) tells.next) (ap (basis_of tree es spot.node) c.in_default-basis.is);
   left = refl;
 }
 

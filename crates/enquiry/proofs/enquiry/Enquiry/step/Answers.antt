@@ -8,12 +8,12 @@ use Rattle.enquiry.proofs.Sources.{few_references, few_rows}
 use Rattle.enquiry.proofs.Standing.{next_is, step_ended, step_on}
 use Rattle.enquiry.proofs.enquiry.Enquiry.step.Goals as goal
 
-pub returns-in-default : goal.returns-in-default
-returns-in-default g c = λ standing.
+pub returns-in_default : goal.returns-in_default
+returns-in_default g c = λ standing.
     let tree = g.T.Tree.meaning c.args.tree.now in
     let point = g.P.DecisionPoint.answer c.args.point.now in
     let self = c.args.self.now in
-    let tells = c.in-default.ensures tree (content self) standing.over in
+    let tells = c.in_default.ensures tree (content self) standing.over in
     step_ended tree point self standing (next_is tree point self standing None tells.next)
 
 pub returns : goal.returns
@@ -28,6 +28,6 @@ returns g c = λ standing.
     let at = next_is tree point self standing (Some s) tells.next in
     let here = within q tree point self.handed s at in
     let few : length (spots q tree) ≤ 5308416 = few_rows q tree point limits standing.source in
-    let one_more : c.saturating-add-self.result ≡ self.handed + 1 = omega (arith, here, few) in
-    step_on tree point self standing s c.row-at-row.result _ at (c.row-at-row.ensures tells.names) refl
-    (c.advance.ensures (few_references q standing.source) standing.over) one_more (ap (λ b. self.permitted && b) c.is-permit.ensures)
+    let one_more : c.saturating_add-self.result ≡ self.handed + 1 = omega (arith, here, few) in
+    step_on tree point self standing s c.row_at-row.result _ at (c.row_at-row.ensures tells.names) refl
+    (c.advance.ensures (few_references q standing.source) standing.over) one_more (ap (λ b. self.permitted && b) c.is_permit.ensures)

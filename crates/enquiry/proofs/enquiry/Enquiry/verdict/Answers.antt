@@ -22,12 +22,12 @@ ended tree point e standing o tells none =
 pub returns-then-not-combined : goal.returns-then-not-combined
 returns-then-not-combined c = λ tree point standing. unasked tree point c.args.self.now standing (sym c.if-not-combined.ensures)
 
-pub returns-then-is-some : goal.returns-then-is-some
-returns-then-is-some c = λ tree point standing.
+pub returns-then-is_some : goal.returns-then-is_some
+returns-then-is_some c = λ tree point standing.
     let self = c.args.self.now in
     let es = (content self).elements in
     let tells = c.spot.ensures tree (content self) standing.over in
-    let some = some_of c.spot.result (sym c.if-is-some.ensures) in
+    let some = some_of c.spot.result (sym c.if-is_some.ensures) in
     rows_left tree point self standing (spot_of tree es some.0) (sym c.if-not-combined.ensures)
     (next_is tree point self standing (option_map (spot_of tree es) c.spot.result) tells.next ∙ ap (option_map (spot_of tree es)) some.1)
 
@@ -36,11 +36,11 @@ returns-then-self c = λ tree point standing.
     let self = c.args.self.now in
     let tells = c.spot.ensures tree (content self) standing.over in
     judges tree point self standing true c.if-self.true (sym c.if-not-combined.ensures)
-    (ended tree point self standing c.spot.result tells (sym c.if-is-some.ensures))
+    (ended tree point self standing c.spot.result tells (sym c.if-is_some.ensures))
 
 pub returns-else-self : goal.returns-else-self
 returns-else-self c = λ tree point standing.
     let self = c.args.self.now in
     let tells = c.spot.ensures tree (content self) standing.over in
     judges tree point self standing false c.if-self.false (sym c.if-not-combined.ensures)
-    (ended tree point self standing c.spot.result tells (sym c.if-is-some.ensures))
+    (ended tree point self standing c.spot.result tells (sym c.if-is_some.ensures))

@@ -24,15 +24,15 @@ loop-call-preserved g c =
     let i = c.loop-call.call-index in
     let calls = c.args.calls.now in
     let replies = vec_items c.loop-call.replies in
-    let reply = c.in-ok-reply.reply in
+    let reply = c.in_ok-reply.reply in
     let pushed : vec_items c.push.new.self ≡ replies ++ reply ∷ [] =
-    chosen _ _ _ _ c.push.ensures.items (ap is_ok c.in-ok-push.was) in
+    chosen _ _ _ _ c.push.ensures.items (ap is_ok c.in_ok-push.was) in
     let more = take_more calls i Step c.loop-call-test.true in
     let long : length (calls_of (take i calls)) ≡ length (replies_of replies) =
     omega (arith, length-map (take i calls) call_of, length-map replies reply_of, length-take-le i calls (omega arith), c.loop-call.invariant.0) in
     let next =
     one_more_worked tree point self (calls_of (take i calls)) (replies_of replies) c.loop-call.self c.answer.new.self (call_of (get_or calls i Step)) (reply_of reply)
-    long c.loop-call.invariant.1 c.in-ok-reply.ensures in (
+    long c.loop-call.invariant.1 c.in_ok-reply.ensures in (
       ap length pushed ∙ length_push replies reply ∙ ap (λ n. n + 1) c.loop-call.invariant.0,
       subst (λ l. Worked tree point self (calls_of (take (i + 1) calls)) (replies_of l) c.answer.new.self) (sym pushed)
           (subst (λ rs. Worked tree point self (calls_of (take (i + 1) calls)) rs c.answer.new.self) (sym (map-append reply_of replies (reply ∷ [])))
