@@ -1,12 +1,12 @@
 -- The rows ahead of a cursor, move by move. Assumes nothing.
-use Rattle.std.proofs.Common.{◌≡◌, ℕ, zero, suc, ◌+◌, ◌<◌, ◌≤◌, List, [], ◌∷◌, ◌++◌, map, length, get_or, drop, Some, None, Option, sym, refl, ap, ◌∙◌, subst, add-one, arith, eq-eqb}
+use Rattle.std.proofs.Common.{◌≡◌, ℕ, zero, suc, ◌+◌, ◌<◌, ◌≤◌, List, [], ◌∷◌, ◌++◌, map, length, get_or, drop, Some, None, sym, refl, ap, ◌∙◌, subst, add-one, arith, eq-eqb}
 use mathlib.Core.List.Memᴰ
 use mathlib.Core.List.{Memᴰ}
 use Rattle.std.specs.List.{flat_map}
 use Rattle.std.proofs.lemmas.List.{append_assoc, drop_more, drop_all, length-append}
 use Rattle.model.specs.Content.{Request}
 use Rattle.model.specs.Lists.{nth}
-use Rattle.model.specs.Tree.{Tree, Extent, children, descendants, count, nodes, at_distance, level, levels, depth, reached}
+use Rattle.model.specs.Tree.{Tree, Extent, children, descendants, count, nodes, at_distance, level, levels, reached}
 use Rattle.model.specs.Rows as rows
 use Rattle.model.specs.Rows.{Listed, Listing, listings, scope, below, resource, scope_spots, resource_spots, choice_spots, reference_spots, spots_from, Spot, node_spot}
 use Rattle.model.proofs.Members.{mem_keep, mem_upto}

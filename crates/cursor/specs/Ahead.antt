@@ -5,7 +5,7 @@ use Rattle.std.specs.List.{flat_map}
 use Rattle.model.specs.declared.decision.Cause.TheVariants as cause
 use Rattle.model.specs.Content.{Request}
 use Rattle.model.specs.Tree.{Tree, Extent, reached}
-use Rattle.model.specs.Rows.{Listed, listings, choice_spots, spots_from, fault_spot, single_spot, node_spot, Spot, spots}
+use Rattle.model.specs.Rows.{Listed, listings, choice_spots, spots_from, fault_spot, single_spot, node_spot, Spot}
 use Rattle.tree.specs.Reached.{extent_of, nodes_reached}
 use Rattle.single.specs.Numbers.{past}
 use Rattle.expansion.specs.Few.{held}

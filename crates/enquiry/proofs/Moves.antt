@@ -1,11 +1,11 @@
 -- What each call answers where so many rows have been handed out, and how an enquiry then stands. Assumes nothing.
-use Rattle.std.proofs.Common.{◌≡◌, ℕ, zero, suc, ◌+◌, ◌<◌, ◌≤◌, Bool, true, false, cond, ◌&&◌, ltb, List, [], ◌∷◌, ◌++◌, map, length, take, drop, is_some, Some, None, Ok, Err, Option, Result, sym, refl, ap, ◌∙◌, subst, add-one, arith}
+use Rattle.std.proofs.Common.{◌≡◌, ℕ, zero, suc, ◌<◌, ◌≤◌, Bool, true, false, ◌&&◌, List, [], ◌∷◌, ◌++◌, length, take, drop, is_some, Some, None, Ok, Err, Option, Result, sym, refl, ap, ◌∙◌, arith}
 use Rattle.std.proofs.lemmas.List.{length-map, take_all}
 use Rattle.std.proofs.lemmas.Bool.{lt-ltb, le-ltb}
 use Rattle.model.specs.declared.call.CallRefusal.TheVariants.{Ended}
 use Rattle.model.specs.Content.{Request}
 use Rattle.model.specs.Lists.{nth}
-use Rattle.model.specs.Tree.{Tree, Limits}
+use Rattle.model.specs.Tree.{Tree}
 use Rattle.model.specs.Points.{Point}
 use Rattle.model.specs.Rows.{Spot, spots, Row, row_at_spot, rows}
 use Rattle.model.specs.Law as law

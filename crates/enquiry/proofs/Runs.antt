@@ -9,7 +9,7 @@ use Rattle.model.specs.Conversation.{Exchange, Holds, rows_out, conversation}
 use Rattle.model.proofs.Conversed.{every_conversation_holds}
 use Rattle.enquiry.specs.declared.enquiry.Enquiry.{Enquiry}
 use Rattle.cursor.specs.Ahead.{ahead, Over}
-use Rattle.enquiry.specs.Calls.{content, Source, Standing, Starts, Unchanged, Answers, Works}
+use Rattle.enquiry.specs.Calls.{content, Source, Standing, Starts, Unchanged, Answers}
 use Rattle.enquiry.specs.Runs.{Run, start, by_call, by_refusal, Law}
 
 abbrev call_made : Exchange → Call

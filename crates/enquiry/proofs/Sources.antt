@@ -1,9 +1,9 @@
 -- What holds of every request that an enquiry can hold. Assumes nothing.
-use Rattle.std.proofs.Common.{◌≡◌, ℕ, ◌<◌, ◌≤◌, List, [], ◌∷◌, map, length, Some, None, Ok, sym, refl, ap, ◌∙◌, subst, arith}
+use Rattle.std.proofs.Common.{◌≡◌, ℕ, ◌<◌, ◌≤◌, List, length, Some, None, sym, ap, ◌∙◌, subst, arith}
 use Rattle.std.specs.List.{AllByRecursion as All}
 use Rattle.std.proofs.ByRecursion.{All-weaker}
 use Rattle.std.proofs.lemmas.List.{length-map}
-use Rattle.model.specs.Content.{Element, Request, read_request}
+use Rattle.model.specs.Content.{Element, Request}
 use Rattle.model.specs.Lists.{nth}
 use Rattle.model.specs.Spelling.{RequestFits, ElementFits}
 use Rattle.model.specs.Tree.{Tree, Limits}
@@ -11,14 +11,13 @@ use Rattle.model.specs.Points.{Point}
 use Rattle.model.specs.Rows.{Basis, fault, single, single_bytes, listings, Spot, spots, row_at_spot}
 use Rattle.model.specs.Total.{most_rows}
 use Rattle.model.proofs.Bounded.{references_bound, rows_bounded}
-use Rattle.model.proofs.Fits.{Proper, ProperBasis, proper_spot}
+use Rattle.model.proofs.Fits.{ProperBasis, proper_spot}
 use Rattle.model.proofs.Ordered.{spots_listed, spots_lengths}
-use Rattle.model.proofs.Positions.{Cut, cut, nth_map}
+use Rattle.model.proofs.Positions.{cut, nth_map}
 use Rattle.model.proofs.Single.{request_fits, Plain}
 use Rattle.model.proofs.SpotOf.{SpotBefore}
 use Rattle.model.proofs.Spots.{all_with, sorted_all, sound_all}
-use Rattle.request.specs.Held.{none_held}
-use Rattle.single.specs.Written.{cut_element, bytes_for}
+use Rattle.single.specs.Written.{bytes_for}
 use Rattle.single.proofs.Fitting.{Untagged, elements_whole}
 use Rattle.cursor.specs.Ahead.{FewReferences}
 use Rattle.cursor.proofs.Rows.{nth_some}

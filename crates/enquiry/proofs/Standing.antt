@@ -1,5 +1,5 @@
 -- How an enquiry stands after each call, and what the call then has answered. Assumes nothing.
-use Rattle.std.proofs.Common.{◌≡◌, ℕ, suc, ◌+◌, ◌<◌, ◌≤◌, Bool, true, false, cond, ◌&&◌, ltb, List, [], ◌++◌, length, take, drop, Some, None, Ok, Err, Option, Result, sym, refl, ap, ◌∙◌, subst, add-one, arith}
+use Rattle.std.proofs.Common.{◌≡◌, ℕ, ◌+◌, ◌≤◌, Bool, true, false, cond, ◌&&◌, List, ◌++◌, length, take, drop, Some, None, Ok, Err, Option, Result, sym, refl, ap, ◌∙◌, subst, add-one, arith}
 use Rattle.std.proofs.lemmas.List.{length-append, length-drop}
 use Rattle.std.proofs.lemmas.Bool.{lt-ltb, le-ltb}
 use Rattle.model.specs.declared.call.CallRefusal.{CallRefusal}
@@ -10,7 +10,7 @@ use Rattle.model.specs.Content.{Element, Request}
 use Rattle.model.specs.Lists.{nth}
 use Rattle.model.specs.Tree.{Tree, Limits}
 use Rattle.model.specs.Points.{Point}
-use Rattle.model.specs.Rows.{Basis, fault, single, single_bytes, Spot, spots, row_at_spot, rows}
+use Rattle.model.specs.Rows.{fault, single, Spot, spots, row_at_spot, rows}
 use Rattle.model.specs.Law as law
 use Rattle.model.specs.Law.{is_permitting, all_permit, verdict_over, write_reply, basis_reply, show_reply, verdict_reply, is_left, reply}
 use Rattle.single.specs.declared.short.TooShort.{TooShort}
@@ -19,7 +19,7 @@ use Rattle.cursor.specs.Ahead.{next_of, later, ahead, Over, Before}
 use Rattle.enquiry.specs.declared.enquiry.Enquiry.{Enquiry}
 use Rattle.enquiry.specs.declared.row.Row.{Row as ToldRow}
 use Rattle.enquiry.specs.Rows.{row_of}
-use Rattle.enquiry.specs.Calls.{content, Source, Standing, Starts, Answers, step_told, show_told, verdict_told}
+use Rattle.enquiry.specs.Calls.{content, Source, Standing, Starts, Answers, step_told, show_told}
 use Rattle.enquiry.proofs.Sources.{Spelled, spelled}
 use Rattle.enquiry.proofs.Moves.{next_drop, later_drop, none_left, no_row, all_given, within, one_left, a_row, permitted_on}
 

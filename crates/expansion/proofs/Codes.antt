@@ -1,5 +1,5 @@
 -- Categories as codes, one by one. Assumes nothing.
-use Rattle.std.proofs.Common.{◌≡◌, ℕ, zero, suc, ◌+◌, ◌<◌, ◌≤◌, max, Bool, true, false, cond, ◌&&◌, ◌||◌, eqb, ltb, List, [], ◌∷◌, ◌++◌, map, length, get_or, take, drop, Some, sym, refl, ap, ◌∙◌, subst, ap₂, append_assoc, arith}
+use Rattle.std.proofs.Common.{◌≡◌, ℕ, zero, suc, ◌+◌, ◌<◌, ◌≤◌, Bool, true, false, cond, ◌||◌, eqb, List, [], ◌∷◌, ◌++◌, map, length, get_or, take, drop, Some, sym, refl, ap, ◌∙◌, ap₂, append_assoc, arith}
 use mathlib.Core.List.{Memᴰ}
 use Rattle.std.proofs.lemmas.List.{at_drop_more, at_drop_all, map_more, take_all, append-nil, length-map, length-take}
 use Rattle.std.proofs.lemmas.Bool.{cond-true, cond-false, eq-eqb, ne_eqb, lt-ltb, and_from}
@@ -9,8 +9,7 @@ use Rattle.model.specs.Rows.{Listed, category_of, of_category, categories, width
 use Rattle.model.proofs.Categories.{appears, width_of}
 use Rattle.request.specs.declared.content.Attribute.{Attribute}
 use Rattle.request.specs.declared.content.Element.{Element as HeldElement}
-use Rattle.request.specs.Held.{element_of_held, elements_of_held}
-use Rattle.single.specs.Numbers.{numbered}
+use Rattle.request.specs.Held.{elements_of_held}
 use Rattle.expansion.specs.Listed.{listed_at, listed_of}
 use Rattle.expansion.specs.Categories.{code_in, code_at, firsts, count_in}
 use Rattle.expansion.specs.Choice.{positive}

@@ -1,9 +1,9 @@
 -- The chosen elements by their numbers. Assumes nothing.
-use Rattle.std.proofs.Common.{◌≡◌, ℕ, ◌+◌, ◌<◌, ◌≤◌, max, Bool, true, false, cond, eqb, List, [], ◌∷◌, ◌++◌, map, length, get_or, take, drop, sym, refl, ap, ◌∙◌, ap₂, append_assoc, arith}
+use Rattle.std.proofs.Common.{◌≡◌, ℕ, ◌+◌, ◌<◌, ◌≤◌, Bool, true, false, cond, eqb, List, [], ◌∷◌, ◌++◌, map, length, get_or, take, drop, sym, refl, ap, ◌∙◌, ap₂, append_assoc, arith}
 use Rattle.std.proofs.lemmas.List.{drop_more, drop_all, take_more, append-nil}
 use Rattle.std.proofs.lemmas.Bool.{cond-true, cond-false, eq-eqb, ne_eqb}
 use Rattle.model.specs.Content.{Element}
-use Rattle.model.specs.Rows.{Listed, category_of, categories, occurrences, taken, picked, chosen}
+use Rattle.model.specs.Rows.{Listed, categories, occurrences, taken, picked, chosen}
 use Rattle.single.specs.Numbers.{past}
 use Rattle.expansion.specs.Listed.{listed_at, listed_of}
 use Rattle.expansion.specs.Categories.{code_at, firsts, picks}

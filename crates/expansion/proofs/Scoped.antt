@@ -1,18 +1,18 @@
 -- What a resource element asks for, by the attributes of two ids. Assumes nothing.
-use Rattle.std.proofs.Common.{◌≡◌, ℕ, zero, suc, ◌+◌, ◌<◌, ◌≤◌, Bool, true, false, cond, eqb, List, [], ◌∷◌, map, length, get_or, drop, sym, refl, ap, ◌∙◌, ap₂}
-use Rattle.std.proofs.lemmas.List.{at_drop_more, at_drop_all}
+use Rattle.std.proofs.Common.{◌≡◌, ℕ, zero, suc, ◌+◌, ◌<◌, Bool, true, false, cond, eqb, List, [], ◌∷◌, length, get_or, drop, sym, refl, ap, ◌∙◌, ap₂}
+use Rattle.std.proofs.lemmas.List.{at_drop_more}
 use Rattle.std.proofs.lemmas.Bool.{cond-true, cond-false, eq-eqb, ne_eqb}
 use Rattle.model.specs.Content as content
 use Rattle.model.specs.Lists.{keep}
-use Rattle.model.specs.Rows.{has_id, with_id, Scope, scope, scope_by_attributes, asked}
+use Rattle.model.specs.Rows.{with_id, scope, scope_by_attributes, asked}
 use Rattle.model.specs.Tree.{Tree, Extent}
 use Rattle.request.specs.declared.content.Attribute.{Attribute}
 use Rattle.request.specs.Held.{attribute_of, attributes_of_held}
 use Rattle.request.specs.Place.{attributes_of}
 use Rattle.single.specs.Numbers.{numbered}
 use Rattle.expansion.specs.declared.asked.Only.{Only}
-use Rattle.expansion.specs.declared.asked.Only.TheVariants.{Nothing, One, Several}
-use Rattle.expansion.specs.Asked.{with_code, one_more, and_these, asked_only, asked_by, scope_only}
+use Rattle.expansion.specs.declared.asked.Only.TheVariants.{Nothing, Several}
+use Rattle.expansion.specs.Asked.{with_code, one_more, and_these, asked_only, scope_only}
 
 -- ONE BY ONE
 

@@ -1,5 +1,5 @@
 -- A first digit is below 16. Assumes nothing.
-use Rattle.std.specs.Prelude.{ℕ, ◌<◌}
+use Rattle.std.specs.Prelude.{◌<◌}
 use Rattle.hex_text.specs.declared.turn.Mode.{Mode}
 use Rattle.hex_text.specs.declared.turn.Mode.TheVariants.{Between, FirstDigit, Comment}
 use Rattle.hex_text.specs.declared.turn.Turn.{Turn}

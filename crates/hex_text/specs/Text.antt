@@ -1,5 +1,5 @@
 -- What a hexadecimal text spells: pairs of digits, with white space between pairs and comments from # to the end of a line. Assumes nothing.
-use Rattle.std.specs.Prelude.{ℕ, ◌+◌, ◌-◌, ◌*◌, Bool, true, false, cond, ◌&&◌, ◌||◌, List, [], ◌∷◌, ◌++◌, Some, None, Ok, Err, Option, Result, ◌==◌, nat_le}
+use Rattle.std.specs.Prelude.{ℕ, ◌+◌, ◌-◌, ◌*◌, Bool, cond, ◌&&◌, ◌||◌, List, [], ◌∷◌, ◌++◌, Some, None, Ok, Err, Option, Result, ◌==◌, nat_le}
 use Rattle.hex_text.specs.declared.turn.Mode.{Mode}
 use Rattle.hex_text.specs.declared.turn.Mode.TheVariants.{Between, FirstDigit, Comment}
 use Rattle.hex_text.specs.declared.turn.Turn.{Turn}

@@ -12,7 +12,7 @@ use Rattle.model.specs.Lists.{Pairwise}
 use Rattle.model.specs.Tree.{Tree, Limits}
 use Rattle.model.specs.Points.{Point}
 use Rattle.model.specs.Rows.{listings, Basis, Spot, spots, Row, row_at_spot, rows}
-use Rattle.model.specs.Meaning.{Stand, stand, RowOf, Before, FirstRows, AllRows}
+use Rattle.model.specs.Meaning.{Stand, RowOf, Before, FirstRows, AllRows}
 use Rattle.model.specs.Agreement.{RowsAgree}
 use Rattle.model.specs.Total.{total}
 use Rattle.model.specs.Conversation.{Ended, Left, Next}

@@ -1,10 +1,10 @@
 -- What a reader takes certain bytes for. Assumes nothing.
-use Rattle.std.proofs.Common.{◌≡◌, ℕ, ◌+◌, ◌≤◌, Bool, true, false, cond, ◌&&◌, leb, List, [], ◌∷◌, ◌++◌, length, take, drop, Some, Ok, Option, sym, refl, ap, ◌∙◌, subst, ap₂, append_assoc, append-nil, arith, length-append}
+use Rattle.std.proofs.Common.{◌≡◌, ℕ, ◌+◌, ◌≤◌, Bool, true, false, cond, leb, List, [], ◌∷◌, ◌++◌, length, take, drop, Some, Ok, sym, refl, ap, ◌∙◌, subst, ap₂, append_assoc, append-nil, arith, length-append}
 use Rattle.std.specs.List.{flat_map}
 use Rattle.std.proofs.lemmas.List.{take_at, drop_at}
 use Rattle.std.proofs.lemmas.Bool.{and_from, le-leb, cond-true}
 use Rattle.model.specs.declared.item.Kind.{Kind}
-use Rattle.model.specs.Layout.{Reading, got, refused, Reader, on, ◌>>=◌, give, refuse, when, unless, inside, within, some, more, many, end, outcome, file, byte, code, flags, bytes, text}
+use Rattle.model.specs.Layout.{got, Reader, on, ◌>>=◌, give, refuse, when, unless, inside, within, some, more, many, end, outcome, file, code, flags, bytes, text}
 use Rattle.model.specs.Spelling.{Between, spell_text, spell_list}
 
 -- the reader takes these bytes for x, and stops behind them

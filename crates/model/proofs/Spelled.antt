@@ -1,13 +1,13 @@
 -- Bytes are accepted as a request exactly where they are the spelling of a well-formed one. Assumes nothing.
-use Rattle.std.proofs.Common.{◌≡◌, ℕ, zero, suc, ◌+◌, ◌≤◌, Bool, true, false, cond, not, ◌||◌, eqb, List, [], ◌∷◌, ◌++◌, length, Some, None, Option, sym, refl, ap, ◌∙◌, subst, ap₂, ⊎_elim, append_assoc, append-nil, arith}
+use Rattle.std.proofs.Common.{◌≡◌, ℕ, zero, suc, ◌+◌, ◌≤◌, Bool, true, false, cond, not, eqb, List, [], ◌∷◌, ◌++◌, length, Some, None, Option, sym, refl, ap, ◌∙◌, subst, ap₂, ⊎_elim, append-nil, arith}
 use mathlib.Core.List as list
 use mathlib.Core.List.Memᴰ
 use mathlib.Core.List.{Memᴰ}
 use Rattle.std.specs.List.{AllByRecursion as All}
 use Rattle.std.proofs.ByRecursion.{All-push}
-use Rattle.std.proofs.lemmas.Bool.{eqb-true, eqb-false, eq-eqb, ne_eqb, or_parts, or_from, both_ways, cases_Bool, false≢true}
+use Rattle.std.proofs.lemmas.Bool.{eqb-true, eqb-false, eq-eqb, ne_eqb, or_parts, or_from, both_ways}
 use Rattle.model.specs.declared.item.Kind.TheVariants as kind
-use Rattle.model.specs.Layout.{Reader, ◌>>=◌, give, when, some, unless, code, flags, bit, text}
+use Rattle.model.specs.Layout.{Reader, ◌>>=◌, give, when, some, code, bit, text}
 use Rattle.model.specs.Order.{Sorted}
 use Rattle.model.specs.Content.{Attribute, Element, Request, attribute_fields, one_attribute, attribute_list, is_tag, carried, new_tag, element_fields, tag_of, one_element, element_list, one_tag, reference_fields, one_reference, reference_list, request_fields, read_request}
 use Rattle.model.specs.Spelling.{Between, WhenSome, AttributeFits, ElementFits, ReferenceFits, ReferencesFit, OtherTag, RequestFits, flag, is_there, is_any, spell_some, spell_list, spell_text, spell_code, typed, spell_attribute, spell_element, spell_reference, spell_request, AcceptedExactly}

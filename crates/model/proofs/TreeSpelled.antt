@@ -1,12 +1,12 @@
 -- Tree files are accepted exactly where they are the spelling of a well-formed content. Assumes nothing.
-use Rattle.std.proofs.Common.{◌≡◌, ℕ, zero, suc, ◌+◌, ◌*◌, ◌/◌, ◌%◌, ◌<◌, ◌≤◌, Bool, true, false, cond, ◌&&◌, ◌||◌, eqb, leb, List, [], ◌∷◌, ◌++◌, length, Ok, sym, refl, ap, ◌∙◌, subst, ap₂, ⊎_elim, append_assoc, append-nil, arith}
+use Rattle.std.proofs.Common.{◌≡◌, ℕ, zero, suc, ◌+◌, ◌*◌, ◌/◌, ◌%◌, ◌<◌, ◌≤◌, Bool, true, false, cond, ◌&&◌, eqb, leb, List, [], ◌∷◌, ◌++◌, length, Ok, sym, refl, ap, ◌∙◌, subst, ap₂, ⊎_elim, append_assoc, append-nil, arith}
 use mathlib.Core.List.Memᴰ
 use mathlib.Core.List.{Memᴰ}
 use Rattle.std.specs.List.{flat_map, AllByRecursion as All}
 use Rattle.std.proofs.ByRecursion.{All-push}
 use Rattle.std.proofs.lemmas.Bool.{and_parts, and_from, eqb-true, eq-eqb, leb-true, leb-false, le-leb, lt-leb, or_parts, or_from, both_ways, cond-true, false≢true}
 use Rattle.model.specs.declared.item.Kind.TheVariants as kind
-use Rattle.model.specs.Layout.{got, Reader, ◌>>=◌, give, refuse, unless, within, more, many, text, wide}
+use Rattle.model.specs.Layout.{got, Reader, ◌>>=◌, give, refuse, unless, more, many, text, wide}
 use Rattle.model.specs.Order.{Sorted}
 use Rattle.model.specs.Spelling.{Between, spell_text}
 use Rattle.model.specs.Tree.{Tree}

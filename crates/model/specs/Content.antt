@@ -1,5 +1,5 @@
 -- What a request holds, and its layout. Assumes nothing.
-use Rattle.std.specs.Prelude.{ℕ, Bool, true, false, cond, ◌||◌, List, [], ◌∷◌, Some, None, Option, Result, ◌==◌}
+use Rattle.std.specs.Prelude.{ℕ, Bool, false, ◌||◌, List, [], ◌∷◌, Some, None, Option, Result, ◌==◌}
 use mathlib.Core.List as list
 use Rattle.model.specs.declared.item.Kind.TheVariants as kind
 use Rattle.model.specs.Layout.{Refusal, Reader, ◌>>=◌, give, when, some, unless, within, many, file, code, flags, bit, text}

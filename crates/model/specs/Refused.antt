@@ -1,5 +1,5 @@
 -- What a refusal of the code says. Assumes nothing.
-use Rattle.std.specs.Prelude.{List, [], ◌∷◌, ◌++◌}
+use Rattle.std.specs.Prelude.{◌++◌}
 use Rattle.std.specs.Option.{option_to_list}
 use Rattle.model.specs.declared.refusal.Refusal.{Refusal as Held}
 use Rattle.model.specs.Layout.{Refusal}

@@ -1,5 +1,5 @@
 -- What the tables of an index hold, over the request's bytes. Assumes nothing.
-use Rattle.std.specs.Prelude.{ℕ, Bool, true, false, cond, List, [], ◌∷◌, Some, None, vec_items, Option, Vec}
+use Rattle.std.specs.Prelude.{ℕ, false, cond, List, [], Some, None, vec_items, Option, Vec}
 use mathlib.Core.List as list
 use Rattle.std.specs.Option.{option_map}
 use Rattle.std.specs.declared.alloc.Global.{Global}

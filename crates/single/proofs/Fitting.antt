@@ -1,22 +1,21 @@
 -- A single request of a request that bytes can hold is one that bytes can hold. Assumes nothing.
-use Rattle.std.proofs.Common.{◌≡◌, ℕ, ◌+◌, ◌<◌, ◌≤◌, Bool, true, false, cond, eqb, List, [], ◌∷◌, map, length, get_or, Some, None, Ok, Option, sym, refl, ap, ◌∙◌, subst, ap₂, arith}
-use mathlib.Core.List.{Memᴰ}
+use Rattle.std.proofs.Common.{◌≡◌, ℕ, ◌<◌, ◌≤◌, Bool, eqb, List, [], ◌∷◌, map, length, Some, None, Option, sym, refl, ap, ◌∙◌, ap₂, arith}
 use Rattle.std.specs.Option.{option_map}
 use Rattle.std.specs.List.{AllByRecursion as All}
-use Rattle.std.proofs.ByRecursion.{All-get_or, All-from_get_or, All-map}
-use Rattle.std.proofs.lemmas.List.{take_all, length-map, get_or-map}
-use Rattle.std.proofs.lemmas.Bool.{cond_both, eqb-true}
-use Rattle.model.specs.Content.{Attribute, Element, Request}
+use Rattle.std.proofs.ByRecursion.{All-get_or, All-from_get_or}
+use Rattle.std.proofs.lemmas.List.{take_all, length-map}
+use Rattle.std.proofs.lemmas.Bool.{cond_both}
+use Rattle.model.specs.Content.{Attribute, Element}
 use Rattle.model.specs.Lists.{keep}
 use Rattle.model.specs.Order.{Sorted}
-use Rattle.model.specs.Rows.{bare, has_id, with_value, named, not_scope, resource_named, for_node, request_of, single_bytes}
+use Rattle.model.specs.Rows.{bare, has_id, with_value, named, not_scope, resource_named, request_of, single_bytes}
 use Rattle.model.specs.Spelling.{WhenSome, Between, AttributeFits, ElementFits, OtherTag, RequestFits}
 use Rattle.model.proofs.Spelled.{accepted_exactly}
 use Rattle.request.specs.Place.{content_of}
 use Rattle.single.specs.declared.single.SingleRequest.{SingleRequest}
 use Rattle.single.specs.Numbers.{blank, numbered, picked}
 use Rattle.single.specs.Single.{name_of, put, numbers_of, chosen_of, content}
-use Rattle.single.specs.Written.{cut, cut_attribute, cut_attributes, cut_element, bytes_for, Spellable, Exact}
+use Rattle.single.specs.Written.{cut, cut_attribute, cut_element, Spellable, Exact}
 use Rattle.single.proofs.Numbers.{number_in}
 use Rattle.single.proofs.Viewing.{content_length}
 

@@ -1,6 +1,6 @@
 -- Bytes laid over a buffer, one after another. Assumes nothing.
-use Rattle.std.proofs.Common.{◌≡◌, ℕ, suc, ◌+◌, ◌<◌, ◌≤◌, List, [], ◌∷◌, ◌++◌, length, get_or, take, drop, set, sym, refl, ap, ◌∙◌, ap₂, add-zero, arith, length-append}
-use Rattle.std.proofs.lemmas.List.{append_assoc, set_at, length_push, drop-drop}
+use Rattle.std.proofs.Common.{◌≡◌, ℕ, suc, ◌+◌, ◌≤◌, List, [], ◌∷◌, ◌++◌, length, drop, set, sym, refl, ap, ◌∙◌, ap₂, add-zero, arith, length-append}
+use Rattle.std.proofs.lemmas.List.{append_assoc, set_at, length_push}
 use Rattle.single.specs.Written.{lay, Laid}
 
 lay_more : (w v buffer : List ℕ) (p : ℕ) → lay buffer p (w ++ v) ≡ lay (lay buffer p w) (p + length w) v

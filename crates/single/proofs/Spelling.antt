@@ -1,15 +1,14 @@
 -- How the parts of a single request are spelled. Assumes nothing.
-use Rattle.std.proofs.Common.{◌≡◌, ℕ, zero, suc, ◌+◌, ◌<◌, ◌≤◌, min, Bool, true, false, List, [], ◌∷◌, ◌++◌, map, length, get_or, take, Some, None, Option, sym, refl, ap, ◌∙◌, ap₂, arith}
+use Rattle.std.proofs.Common.{◌≡◌, ℕ, zero, suc, ◌+◌, ◌<◌, ◌≤◌, min, List, [], ◌∷◌, ◌++◌, map, length, get_or, take, Some, None, Option, sym, refl, ap, ◌∙◌, ap₂, arith}
 use Rattle.std.specs.Option.{option_map}
 use Rattle.std.specs.List.{flat_map}
 use Rattle.std.proofs.lemmas.List.{append-nil, flat_map_more, map_push, take_more, take_all, length-map, length-take-le}
 use Rattle.wire.proofs.Clipped.{take_clipped}
 use Rattle.model.specs.Content.{Attribute, Element}
 use Rattle.model.specs.Lists.{nth}
-use Rattle.model.specs.Rows.{single_bytes}
 use Rattle.model.specs.Spelling.{is_there, spell_attribute, spell_element}
 use Rattle.single.specs.Numbers.{blank}
-use Rattle.single.specs.Single.{category_of, category_at, attributes_in, attributes_at}
+use Rattle.single.specs.Single.{category_of, attributes_in}
 use Rattle.single.specs.Written.{cut, cut_attribute, cut_attributes, cut_element, spelled_at, spelled_element, bytes_for}
 use Rattle.single.proofs.Places.{nth_get_d}
 

@@ -1,7 +1,7 @@
 -- The elements of a single request, by their numbers. Assumes nothing.
-use Rattle.std.proofs.Common.{◌≡◌, ℕ, zero, suc, ◌<◌, ◌≤◌, Bool, List, [], ◌∷◌, map, length, get_or, take, Some, None, Option, sym, refl, ap, ◌∙◌, subst, ap₂, arith}
+use Rattle.std.proofs.Common.{◌≡◌, ℕ, zero, suc, ◌<◌, ◌≤◌, Bool, List, [], ◌∷◌, map, length, get_or, Some, None, Option, sym, refl, ap, ◌∙◌, subst, arith}
 use Rattle.std.specs.Option.{option_map}
-use Rattle.std.proofs.lemmas.List.{length-map, get_or-map, get_or-take, length-take-le, get_or_default}
+use Rattle.std.proofs.lemmas.List.{length-map, get_or-map, get_or-take, length-take-le}
 use Rattle.model.specs.Content as content
 use Rattle.model.specs.Lists.{nth}
 use Rattle.request.specs.declared.content.Attribute.{Attribute}
@@ -12,7 +12,7 @@ use Rattle.single.specs.declared.seen.Seen.{Seen}
 use Rattle.single.specs.declared.single.SingleRequest.{SingleRequest}
 use Rattle.single.specs.Numbers.{blank, numbered}
 use Rattle.single.specs.Shown.{shown}
-use Rattle.single.specs.Single.{name_of, put, numbers_of, chosen_of, content as content_of_view, bytes_of, name_or_none, category_of, category_at, attributes_in, attributes_at, seen_in, is_resource_category}
+use Rattle.single.specs.Single.{name_of, put, numbers_of, chosen_of, content as content_of_view, bytes_of, category_of, category_at, attributes_in, attributes_at, seen_in, is_resource_category}
 use Rattle.single.proofs.Places.{nth_get_d, nth_past, nth_map}
 use Rattle.single.proofs.Numbers.{number_in}
 use Rattle.single.proofs.Showing.{category_kept, node_view}

@@ -1,5 +1,5 @@
 -- How a single request shows the attributes that a request holds. Assumes nothing.
-use Rattle.std.specs.Prelude.{ℕ, Bool, true, false, cond, ◌&&◌, List, [], ◌∷◌, ◌==◌}
+use Rattle.std.specs.Prelude.{ℕ, Bool, cond, ◌&&◌, List, [], ◌∷◌, ◌==◌}
 use Rattle.std.specs.Option.{option_map}
 use Rattle.model.specs.Content as content
 use Rattle.wire.specs.declared.span.Span.{Span}

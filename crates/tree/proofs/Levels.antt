@@ -1,15 +1,14 @@
 -- The levels of a tree, one after the other. Assumes nothing.
-use Rattle.std.proofs.Common.{◌≡◌, ℕ, zero, suc, ◌+◌, ◌-◌, ◌<◌, ◌≤◌, Bool, true, false, cond, not, ◌&&◌, ◌||◌, List, [], ◌∷◌, ◌++◌, map, length, get_or, sym, refl, ap, ◌∙◌, subst, add-zero, arith}
+use Rattle.std.proofs.Common.{◌≡◌, ℕ, zero, suc, ◌+◌, ◌-◌, ◌<◌, ◌≤◌, Bool, true, false, not, ◌&&◌, ◌||◌, List, [], ◌∷◌, ◌++◌, sym, refl, ap, ◌∙◌, subst, add-zero, arith}
 use mathlib.Core.List.Memᴰ
 use mathlib.Core.List.{Memᴰ}
 use Rattle.std.proofs.lemmas.List.{append-nil, append_assoc, map-append}
 use Rattle.model.specs.Lists.{upto, any, keep}
-use Rattle.model.specs.Tree.{Tree, count, nodes, near, at_distance, level, levels, reached, children, descendants, Extent, depth}
+use Rattle.model.specs.Tree.{Tree, count, nodes, near, at_distance, level, levels, children, descendants, Extent, depth}
 use Rattle.model.proofs.Members.{mem_keep, keep_none, of_upto, mem_upto}
 use Rattle.model.proofs.Distances.{level_before}
-use Rattle.tree.specs.declared.reach.Reached.{Reached}
 use Rattle.tree.specs.Reached.{all_at, nodes_reached, node_of, levels_at, fresh, farthest_of}
-use Rattle.tree.proofs.Bools.{or_false, or_assoc, or_again, and_turned, any_or, any_keep, any_same, keep_same}
+use Rattle.tree.proofs.Bools.{or_assoc, or_again, and_turned, any_or, any_keep, any_same, keep_same}
 
 -- where a link l leads on from a node that lies near (x), or one link farther (z)
 both_levels : (l x z : Bool) → ((l && x) || (((x || z) && not x) && l)) ≡ (l && (x || z))

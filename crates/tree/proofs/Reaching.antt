@@ -1,5 +1,5 @@
 -- The levels are what paths of links lead to. Assumes nothing.
-use Rattle.std.proofs.Common.{◌≡◌, ℕ, zero, suc, ◌+◌, ◌<◌, ◌≤◌, Bool, true, false, ◌⊎◌, List, [], ◌∷◌, ◌++◌, map, sym, refl, ap, ◌∙◌, subst, ap₂, inl, inr, ⊎_elim, arith}
+use Rattle.std.proofs.Common.{◌≡◌, ℕ, zero, suc, ◌+◌, ◌<◌, ◌≤◌, Bool, true, false, List, [], ◌∷◌, ◌++◌, map, sym, refl, ◌∙◌, subst, ap₂, inl, inr, arith}
 use mathlib.Core.List.Memᴰ
 use mathlib.Core.List.{Memᴰ}
 use Rattle.std.proofs.lemmas.List.{map-append}
@@ -7,9 +7,9 @@ use Rattle.std.proofs.lemmas.Bool.{cases_Bool, false≢true}
 use Rattle.model.specs.Order.{Sorted}
 use Rattle.model.specs.Tree.{Tree, count, Limits, Path, Distance, near, at_distance, level, depth, Extent, children, descendants}
 use Rattle.model.proofs.Members.{sorted_map, map_map}
-use Rattle.model.proofs.Distances.{levels_with, Nearer, Lies, of_levels, mem_levels, sorted_levels, near_of_path, path_of_near, distance_of, of_distance, ends_at_node, distance_below_count}
+use Rattle.model.proofs.Distances.{levels_with, Nearer, of_levels, mem_levels, sorted_levels, near_of_path, distance_of, ends_at_node, distance_below_count}
 use Rattle.tree.specs.declared.reach.Reached.{Reached}
-use Rattle.tree.specs.Reached.{all_at, levels_at}
+use Rattle.tree.specs.Reached.{levels_at}
 use Rattle.tree.specs.Reaches as spec
 use Rattle.tree.specs.Reaches.{Reaches, FarEnough, Unlike}
 

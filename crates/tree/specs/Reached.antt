@@ -1,5 +1,5 @@
 -- What a reach holds. Assumes nothing.
-use Rattle.std.specs.Prelude.{ℕ, zero, suc, ◌+◌, ◌-◌, Bool, false, not, ◌&&◌, List, [], ◌∷◌, ◌++◌, map, slice_index_or}
+use Rattle.std.specs.Prelude.{ℕ, zero, suc, ◌+◌, ◌-◌, Bool, false, not, ◌&&◌, List, [], ◌++◌, map, slice_index_or}
 use Rattle.model.specs.Tree.{Tree, level, Extent, children, descendants}
 use Rattle.tree.specs.declared.extent.Extent.{Extent as ToldExtent}
 use Rattle.tree.specs.declared.extent.Extent.TheVariants.{Children, Descendants}

@@ -1,5 +1,5 @@
 -- What stands at a place of the bytes, and what a field then reads there. Assumes nothing.
-use Rattle.std.proofs.Common.{◌≡◌, ℕ, ◌+◌, ◌-◌, ◌*◌, ◌<◌, ◌≤◌, true, cond, ◌&&◌, leb, List, [], ◌∷◌, length, get_or, take, drop, sym, refl, ap, ◌∙◌, ap₂, add-zero, arith, length-drop}
+use Rattle.std.proofs.Common.{◌≡◌, ℕ, ◌+◌, ◌-◌, ◌*◌, ◌<◌, ◌≤◌, leb, List, ◌∷◌, length, get_or, take, drop, sym, ap, ◌∙◌, ap₂, add-zero, arith, length-drop}
 use Rattle.std.proofs.lemmas.List.{drop_more, get_or-drop, drop-drop, length-take-le}
 use Rattle.std.proofs.lemmas.Bool.{le-leb, cond-true}
 use Rattle.model.specs.Layout.{got, refuse, bytes, wide}

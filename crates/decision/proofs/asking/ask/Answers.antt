@@ -1,7 +1,7 @@
-use Rattle.std.proofs.Common.{◌≡◌, sym, ap, ◌∙◌, subst, rules}
+use Rattle.std.proofs.Common.{sym, ap, ◌∙◌, subst}
 use Rattle.model.specs.Points.{AnswerFits}
 use Rattle.single.specs.Single.{content}
-use Rattle.decision.specs.Answered.{answered, asked}
+use Rattle.decision.specs.Answered.{asked}
 use Rattle.decision.proofs.asking.ask.Goals as goal
 
 pub returns-in-Some : goal.returns-in-Some

@@ -1,4 +1,4 @@
-use Rattle.std.proofs.Common.{◌≡◌, ◌≤◌, map, length, get_or, sym, ap, ◌∙◌, arith}
+use Rattle.std.proofs.Common.{◌≤◌, map, length, get_or, ap, ◌∙◌, arith}
 use Rattle.request.specs.Place.{content_of}
 use Rattle.expansion.specs.Few.{held}
 use Rattle.expansion.specs.Categories.{code_at}

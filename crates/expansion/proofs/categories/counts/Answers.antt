@@ -1,4 +1,4 @@
-use Rattle.std.proofs.Common.{◌≡◌, ◌≤◌, map, length, sym, ap, ◌∙◌, arith}
+use Rattle.std.proofs.Common.{◌≤◌, map, length, ap, ◌∙◌, arith}
 use Rattle.expansion.specs.Few.{held}
 use Rattle.expansion.specs.Categories.{count_in}
 use Rattle.expansion.proofs.Codes.{mapped_more, mapped_room, map_all}

@@ -1,8 +1,8 @@
-use Rattle.std.proofs.Common.{◌≡◌, ◌+◌, ◌-◌, ◌<◌, ◌≤◌, [], ◌∷◌, ◌++◌, length, get_or, take, drop, set, Some, None, sym, refl, ap, ◌∙◌, ap₂, arith}
+use Rattle.std.proofs.Common.{◌≡◌, ◌+◌, ◌-◌, ◌<◌, ◌≤◌, length, get_or, drop, Some, sym, ap, ◌∙◌, ap₂, arith}
 use Rattle.std.proofs.lemmas.List.{length-set}
 use Rattle.expansion.specs.Few.{held}
-use Rattle.expansion.specs.Choice.{after_choice, next_choice, from_choice, zeros}
-use Rattle.expansion.proofs.Successor.{next_walk, moves_here, still_here, cleared, cleared_length, put_cleared, zero_cleared, all_cleared, still_past}
+use Rattle.expansion.specs.Choice.{next_choice, from_choice}
+use Rattle.expansion.proofs.Successor.{next_walk, moves_here, still_here, cleared_length, put_cleared, zero_cleared, all_cleared, still_past}
 use Rattle.expansion.proofs.choice.next.Goals as goal
 
 pub returns-then-positions-widths : goal.returns-then-positions-widths

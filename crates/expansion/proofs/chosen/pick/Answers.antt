@@ -1,9 +1,9 @@
 use Rattle.std.proofs.Common.{◌≡◌, ◌-◌, ◌<◌, [], ◌++◌, length, get_or, take, sym, ap, ◌∙◌, arith}
 use Rattle.std.proofs.lemmas.List.{length_push}
-use Rattle.model.specs.Rows.{occurrences, taken}
+use Rattle.model.specs.Rows.{occurrences}
 use Rattle.expansion.specs.Few.{held}
 use Rattle.expansion.specs.Categories.{picks}
-use Rattle.expansion.proofs.Picking.{left, pick_not, pick_it, pick_all}
+use Rattle.expansion.proofs.Picking.{pick_not, pick_it, pick_all}
 use Rattle.expansion.proofs.chosen.pick.Goals as goal
 
 pub loop-i-init : goal.loop-i-init

@@ -1,12 +1,11 @@
-use Rattle.std.proofs.Common.{◌≡◌, ◌<◌, ◌≤◌, length, get_or, Some, sym, ap, ◌∙◌, arith}
+use Rattle.std.proofs.Common.{length, Some, sym, ap, ◌∙◌, arith}
 use Rattle.model.specs.Lists.{nth, upto}
 use Rattle.model.specs.Rows.{all_listed, listing, listings_by, lists}
 use Rattle.wire.specs.declared.span.Span.{Span}
 use Rattle.wire.specs.Span.{part}
 use Rattle.request.specs.Place.{content_of}
 use Rattle.single.specs.Numbers.{past}
-use Rattle.expansion.specs.Few.{held}
-use Rattle.expansion.specs.Listed.{listed_of, listing_of}
+use Rattle.expansion.specs.Listed.{listed_of}
 use Rattle.expansion.proofs.Fews.{past_upto}
 use Rattle.expansion.proofs.Naming.{all_are, shown_length, few_shown}
 use Rattle.expansion.proofs.References.{tags_few, nth_maps, nth_maps_past, nth_one, nth_one_past}

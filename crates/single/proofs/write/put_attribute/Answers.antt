@@ -1,7 +1,7 @@
-use Rattle.std.proofs.Common.{◌≡◌, ◌+◌, ◌∷◌, ◌++◌, sym, ap, ◌∙◌, ap₂, arith}
+use Rattle.std.proofs.Common.{◌+◌, ◌∷◌, ◌++◌, sym, ap, ◌∙◌, ap₂, arith}
 use Rattle.std.specs.Option.{option_map}
 use Rattle.wire.specs.Told.{spanned}
-use Rattle.model.specs.Spelling.{flag, is_there, spell_text, spell_some}
+use Rattle.model.specs.Spelling.{flag, spell_text, spell_some}
 use Rattle.single.specs.Written.{cut, other_type, type_bytes}
 use Rattle.single.proofs.Laying.{laid_more, laid_as}
 use Rattle.single.proofs.Spelling.{there_mapped}

@@ -1,4 +1,4 @@
-use Rattle.std.proofs.Common.{◌≡◌, ◌-◌, ◌≤◌, length, drop, ap, ◌∙◌, subst, arith, length-drop, rules}
+use Rattle.std.proofs.Common.{◌≡◌, ◌-◌, ◌≤◌, length, ap, ◌∙◌, subst, length-drop, rules}
 use Rattle.wire.proofs.Fields.{bytes_there}
 use Rattle.wire.proofs.field.next_bytes.Goals as goal
 

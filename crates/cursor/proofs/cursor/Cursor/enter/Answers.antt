@@ -1,4 +1,4 @@
-use Rattle.std.proofs.Common.{◌≡◌, ◌+◌, Some, None, sym, refl, ap, ◌∙◌, subst}
+use Rattle.std.proofs.Common.{◌≡◌, ◌+◌, Some, sym, ap, ◌∙◌, subst}
 use Rattle.model.specs.Lists.{nth}
 use Rattle.model.specs.Rows.{listings, unknown, lists, choices, widths}
 use Rattle.request.specs.Place.{content_of}

@@ -1,4 +1,4 @@
-use Rattle.std.proofs.Common.{◌≡◌, ◌+◌, ap, ◌∙◌}
+use Rattle.std.proofs.Common.{◌+◌, ◌∙◌}
 use Rattle.request.specs.Place.{content_of}
 use Rattle.expansion.specs.Choice.{after_choice}
 use Rattle.expansion.specs.Few.{held}

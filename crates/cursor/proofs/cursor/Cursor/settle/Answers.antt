@@ -1,4 +1,4 @@
-use Rattle.std.proofs.Common.{◌≡◌, ◌<◌, ◌≤◌, ◌++◌, map, length, sym, refl, ap, ◌∙◌, subst, arith}
+use Rattle.std.proofs.Common.{◌<◌, ◌++◌, map, length, sym, ap, ◌∙◌, subst, arith}
 use Rattle.model.specs.Rows.{resource, node_spot}
 use Rattle.model.proofs.Asked.{asked_node}
 use Rattle.tree.specs.Reached.{extent_of}

@@ -1,4 +1,4 @@
-use Rattle.std.proofs.Common.{◌≡◌, sym, ap, subst}
+use Rattle.std.proofs.Common.{◌≡◌, sym, subst}
 use Rattle.model.specs.Law.{Reply}
 use Rattle.model.specs.Points.{Point}
 use Rattle.model.specs.Tree.{Tree}

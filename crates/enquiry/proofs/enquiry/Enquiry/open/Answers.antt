@@ -1,4 +1,4 @@
-use Rattle.std.proofs.Common.{◌≡◌, Ok, sym, refl, ap, ◌∙◌, subst}
+use Rattle.std.proofs.Common.{◌≡◌, Ok, sym, ap, ◌∙◌, subst}
 use Rattle.model.specs.Content.{read_request}
 use Rattle.model.specs.Spelling.{SpellingOf}
 use Rattle.request.specs.Place.{bytes_of, content_of}

@@ -1,4 +1,4 @@
-use Rattle.std.proofs.Common.{◌≡◌, Some, None, Ok, Err, refl, ap, ◌∙◌, subst}
+use Rattle.std.proofs.Common.{Some, None, Ok, Err, refl, ap, subst}
 use Rattle.model.specs.Rows.{single_request}
 use Rattle.expansion.specs.Few.{held}
 use Rattle.expansion.specs.Listed.{listed_of}

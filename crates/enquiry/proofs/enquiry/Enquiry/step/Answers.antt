@@ -1,6 +1,5 @@
-use Rattle.std.proofs.Common.{◌≡◌, ◌+◌, ◌<◌, ◌≤◌, ◌&&◌, length, Some, None, refl, ap, ◌∙◌, arith}
+use Rattle.std.proofs.Common.{◌≡◌, ◌+◌, ◌≤◌, ◌&&◌, length, Some, None, refl, ap, arith}
 use Rattle.model.specs.Rows.{spots}
-use Rattle.model.specs.Total.{most_rows}
 use Rattle.cursor.specs.Spots.{spot_of}
 use Rattle.enquiry.specs.Calls.{content}
 use Rattle.enquiry.proofs.Moves.{within}

@@ -1,11 +1,11 @@
-use Rattle.std.proofs.Common.{◌≡◌, Bool, true, false, cond, is_some, Some, None, Option, sym, ap, ◌∙◌}
+use Rattle.std.proofs.Common.{◌≡◌, true, false, is_some, None, Option, sym, ap, ◌∙◌}
 use Rattle.std.specs.Option.{option_map}
 use Rattle.model.specs.Lists.{nth}
 use Rattle.model.specs.Points.{Point}
 use Rattle.model.specs.Rows.{spots}
 use Rattle.model.specs.Tree.{Tree}
 use Rattle.cursor.specs.declared.spot.Spot.{Spot}
-use Rattle.cursor.specs.Ahead.{Over, Tells}
+use Rattle.cursor.specs.Ahead.{Tells}
 use Rattle.cursor.specs.Spots.{spot_of}
 use Rattle.enquiry.specs.declared.enquiry.Enquiry.{Enquiry}
 use Rattle.enquiry.specs.Calls.{content, Standing}

@@ -1,10 +1,9 @@
-use Rattle.std.proofs.Common.{◌≡◌, ◌+◌, ◌≤◌, List, [], ◌∷◌, ◌++◌, length, get_or, take, is_ok, vec_items, sym, refl, ap, ◌∙◌, subst, arith}
+use Rattle.std.proofs.Common.{◌≡◌, ◌+◌, [], ◌∷◌, ◌++◌, length, get_or, take, is_ok, vec_items, sym, ap, ◌∙◌, subst, arith}
 use Rattle.std.proofs.ResultArms.{chosen}
 use Rattle.std.proofs.lemmas.List.{take_more, take_all, length_push, length-map, length-take-le, map-append}
 use Rattle.enquiry.specs.declared.work.Call.TheVariants.{Step}
 use Rattle.enquiry.specs.Worked.{call_of, reply_of, calls_of, replies_of, Worked}
 use Rattle.enquiry.proofs.Working.{nothing_worked, one_more_worked}
-use Rattle.enquiry.proofs.enquiry.Enquiry.work.Given as given
 use Rattle.enquiry.proofs.enquiry.Enquiry.work.Goals as goal
 
 pub loop-call-init : goal.loop-call-init

@@ -1,9 +1,9 @@
-use Rattle.std.proofs.Common.{◌≡◌, ◌≤◌, [], refl, arith, rules}
+use Rattle.std.proofs.Common.{refl, arith, rules}
 use Rattle.std.proofs.lemmas.List.{nil_from_length}
 use Rattle.wire.proofs.Left.{one_less}
 use Rattle.wire.proofs.Exits.{told_refused}
 use Rattle.wire.specs.Told.{always}
-use Rattle.request.proofs.Tables.{elements_push, reach_push, reach_none, tags_same}
+use Rattle.request.proofs.Tables.{elements_push, reach_push, tags_same}
 use Rattle.request.specs.Tables.{element_span}
 use Rattle.request.specs.Refused.{in_request_fault}
 use Rattle.request.specs.Held.{elements_in}

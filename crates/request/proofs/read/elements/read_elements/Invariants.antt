@@ -1,4 +1,4 @@
-use Rattle.std.proofs.Common.{◌≡◌, ◌+◌, ◌*◌, ◌≤◌, vec_items, vec_len, vec_capacity}
+use Rattle.std.proofs.Common.{◌≡◌, ◌*◌, ◌≤◌, vec_items, vec_len, vec_capacity}
 use Rattle.request.proofs.read.elements.read_elements.Given as goal
 use Rattle.wire.proofs.Left.{Left}
 use Rattle.model.specs.Layout.{many}

@@ -1,4 +1,4 @@
-use Rattle.std.proofs.Common.{◌≡◌, ◌<◌, ◌≤◌, length, None, sym, ap, ◌∙◌, arith, rules}
+use Rattle.std.proofs.Common.{◌<◌, ◌≤◌, length, None, sym, ap, arith, rules}
 use Rattle.request.specs.declared.content.Element.{Element}
 use Rattle.request.proofs.Lookup.{attributes_here, attributes_past}
 use Rattle.request.proofs.request.Request.attributes.Goals as goal

@@ -1,10 +1,9 @@
-use Rattle.std.proofs.Common.{◌≡◌, ◌≤◌, min, map, length, take, Some, None, sym, ap, ◌∙◌, arith, rules}
+use Rattle.std.proofs.Common.{◌≡◌, min, map, length, sym, ap, ◌∙◌, arith}
 use Rattle.std.specs.Option.{option_map}
 use Rattle.std.proofs.lemmas.List.{length-map}
 use Rattle.model.specs.Rows.{bare}
 use Rattle.request.specs.Held.{element_of_held}
 use Rattle.request.specs.Place.{content_of}
-use Rattle.single.specs.Numbers.{picked, all_at}
 use Rattle.single.proofs.Numbers.{chosen_below, chosen_there, chosen_absent}
 use Rattle.single.proofs.single.SingleRequest.new.Goals as goal
 

@@ -1,4 +1,4 @@
-use Rattle.std.proofs.Common.{◌≡◌, ◌+◌, ◌*◌, ◌<◌, ◌≤◌, length, sym, ap, ◌∙◌, ap₂, arith, rules}
+use Rattle.std.proofs.Common.{◌<◌, ◌≤◌, length, sym, arith}
 use Rattle.single.specs.Single.{content}
 use Rattle.single.proofs.Laying.{laid_none, laid_more, laid_as}
 use Rattle.single.proofs.Spelling.{elements_push, whole_spelled}

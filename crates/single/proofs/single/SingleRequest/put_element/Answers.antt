@@ -1,8 +1,8 @@
-use Rattle.std.proofs.Common.{◌≡◌, ◌+◌, ◌*◌, ◌<◌, ◌≤◌, min, [], ◌∷◌, ◌++◌, map, length, take, sym, ap, ◌∙◌, ap₂, arith, rules}
+use Rattle.std.proofs.Common.{◌≡◌, ◌<◌, min, ◌∷◌, ◌++◌, map, length, take, sym, ap, ◌∙◌, ap₂, arith}
 use Rattle.std.specs.List.{flat_map}
 use Rattle.model.specs.Spelling.{spell_attribute}
 use Rattle.single.specs.Shown.{attribute_seen}
-use Rattle.single.specs.Single.{content, attributes_at, category_at, seen_in}
+use Rattle.single.specs.Single.{content, attributes_at, seen_in}
 use Rattle.single.specs.Written.{cut_attribute, spelled_at}
 use Rattle.single.proofs.Laying.{laid_none, laid_more, laid_as}
 use Rattle.single.proofs.Places.{nth_none}

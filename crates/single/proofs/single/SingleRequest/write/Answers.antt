@@ -1,4 +1,4 @@
-use Rattle.std.proofs.Common.{◌≡◌, ◌+◌, ◌≤◌, length, sym, refl, ◌∙◌, subst, zero-add, arith}
+use Rattle.std.proofs.Common.{◌≤◌, length, refl, ◌∙◌, subst, zero-add, arith}
 use Rattle.single.specs.Single.{content}
 use Rattle.single.specs.Written.{bytes_for}
 use Rattle.single.proofs.Fitting.{exact}

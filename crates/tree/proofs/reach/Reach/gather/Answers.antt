@@ -1,7 +1,7 @@
-use Rattle.std.proofs.Common.{◌≡◌, ℕ, ◌+◌, ◌<◌, false, not, ◌&&◌, List, get_or, vec_items, count_by, sym, ap, ◌∙◌, subst, arith}
+use Rattle.std.proofs.Common.{◌+◌, ◌<◌, vec_items, count_by, sym, ap, ◌∙◌, subst, arith}
 use Rattle.std.proofs.lemmas.Bool.{and_left, and_right, not_from_true}
 use Rattle.tree.specs.declared.reach.Reach.{Reach}
-use Rattle.tree.proofs.Gather.{Gathered, one_more, room_left, gathered_yes, gathered_no, gathered_all}
+use Rattle.tree.proofs.Gather.{Gathered, one_more, room_left, gathered_yes, gathered_no}
 use Rattle.tree.proofs.reach.Reach.gather.Goals as goal
 use Rattle.tree.proofs.reach.Reach.gather.Goals.{then-is_set+then-not-is_set, else-is_set, else-is_set-via-then-is_set+else-not-is_set, else-is_set-via-else-is_set}
 

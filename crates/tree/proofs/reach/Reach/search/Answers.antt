@@ -1,8 +1,7 @@
-use Rattle.std.proofs.Common.{◌≡◌, suc, ◌<◌, ◌≤◌, List, length, vec_items, ap, ◌∙◌, arith}
-use Rattle.model.specs.Tree.{Tree, count, Limits, Extent, depth, reached}
+use Rattle.std.proofs.Common.{◌≡◌, suc, ◌<◌, List, length, vec_items, ap, ◌∙◌, arith}
+use Rattle.model.specs.Tree.{Tree, count, Extent, depth, reached}
 use Rattle.tree.specs.declared.reach.Reached.{Reached}
 use Rattle.tree.specs.Reached.{extent_of, farthest_of, nodes_reached, levels_at}
-use Rattle.tree.specs.Reaches.{Reaches}
 use Rattle.tree.proofs.Levels.{nodes_levels, levels_whole, depth_above}
 use Rattle.tree.proofs.Reaching.{reaches}
 use Rattle.tree.proofs.Walk.{levelled_none, levelled_more, levelled_stop}

@@ -1,4 +1,4 @@
-use Rattle.std.proofs.Common.{◌≡◌, ◌<◌, ◌≤◌, length, vec_items, ap, ◌∙◌, arith}
+use Rattle.std.proofs.Common.{◌<◌, ◌≤◌, length, vec_items, ap, arith}
 use Rattle.tree.proofs.Walk.{spreading_more, spreading_all}
 use Rattle.tree.proofs.reach.Reach.spread.Goals as goal
 

@@ -1,4 +1,4 @@
-use Rattle.std.proofs.Common.{◌≡◌, false, ◌||◌, get_or, ap, ◌∙◌, arith}
+use Rattle.std.proofs.Common.{false, ◌||◌, get_or, ap, ◌∙◌, arith}
 use Rattle.tree.proofs.Firsts.{child_is, child_below, child_not, marked_more}
 use Rattle.tree.proofs.reach.steps.mark_children.Goals as goal
 
