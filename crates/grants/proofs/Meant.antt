@@ -1,7 +1,7 @@
 -- The computed answer is the one that the relations give, and only that. Assumes nothing.
-use Rattle.std.proofs.Common.{◌≡◌, ℕ, zero, suc, ◌+◌, ◌<◌, ◌≤◌, Bool, true, false, cond, ◌&&◌, ◌||◌, eqb, ltb, ◌⊎◌, ◌↔◌, List, [], ◌∷◌, ◌++◌, length, get_or, sym, refl, ap, ◌∙◌, subst, ap₂, inl, inr, ⊎_elim, add-zero, zero-add, arith}
+use Rattle.std.proofs.Common.{◌≡◌, ℕ, zero, suc, ◌+◌, ◌<◌, Bool, true, false, cond, ◌&&◌, ◌||◌, List, [], ◌∷◌, length, get_or, sym, refl, ap, ◌∙◌, subst, ap₂, inl, inr, ⊎_elim, add-zero, zero-add, arith}
 use Rattle.std.proofs.lemmas.List.{nil_from_length}
-use Rattle.std.proofs.lemmas.Bool.{and_parts, and_from, or_cases, or_parts, or_left, or_right, or_from, cond-true, cond-false, eqb-true, eq-eqb, ne_eqb, eqb-false, ltb-true, lt-ltb, le-ltb, ltb-false, both_ways, cases_Bool}
+use Rattle.std.proofs.lemmas.Bool.{and_parts, and_from, or_cases, or_parts, or_from, cond-true, cond-false, eqb-true, ne_eqb, ltb-true, lt-ltb, ltb-false, both_ways, cases_Bool}
 use Rattle.model.specs.declared.decision.Decision.TheVariants as decision
 use Rattle.model.specs.declared.decision.Status.TheVariants as status
 use Rattle.model.specs.Content.{Element}
@@ -10,7 +10,7 @@ use Rattle.model.specs.Values.{same}
 use Rattle.model.specs.Points.{Answer, answers}
 use Rattle.model.specs.PointFiles.{Line, values, missing, repeated, same_line, first_line, grants_point}
 use Rattle.single.proofs.Values.{same_is, same_self}
-use Rattle.grants.specs.Meaning.{OneList, Lacks, Repeats, Asks, Gives, by_lack, by_repeat, by_line, by_none, FirstLine}
+use Rattle.grants.specs.Meaning.{Lacks, Repeats, Asks, Gives, by_lack, by_repeat, by_line, by_none, FirstLine}
 
 -- LINES
 

@@ -1,10 +1,10 @@
 -- The table of lines in the order of their texts: what a search in it finds, and a line more. Assumes nothing.
-use Rattle.std.proofs.Common.{◌≡◌, ℕ, zero, suc, ◌+◌, ◌-◌, ◌<◌, ◌≤◌, Bool, true, false, ◌&&◌, leb, ◌⊎◌, List, [], ◌∷◌, ◌++◌, length, get_or, Ordering, Less, Equal, Greater, sym, refl, ap, ◌∙◌, subst, ap₂, ⊎_elim, add-zero, arith}
+use Rattle.std.proofs.Common.{◌≡◌, ℕ, zero, suc, ◌+◌, ◌-◌, ◌<◌, ◌≤◌, Bool, true, false, ◌&&◌, leb, List, [], ◌∷◌, ◌++◌, length, get_or, Ordering, Less, Equal, Greater, sym, refl, ap, ◌∙◌, subst, ap₂, ⊎_elim, add-zero, arith}
 use Rattle.std.proofs.lemmas.List.Edits.{length-insert, get_or-insert_below, get_or-insert_at, get_or-insert_above}
 use Rattle.std.proofs.lemmas.List.{length_push, get_or_push, get_or_append_left}
 use Rattle.std.proofs.lemmas.Bool.{cases_order, cases_lt, and_parts, and_from, or_left, or_right, or_cases, leb-true, le-leb, cond-true, cond-false, false≢true}
 use Rattle.std.specs.List.{insert}
-use Rattle.std.specs.Cmp.{ranks, pairs, then_total, on_total, nat_cmp_total}
+use Rattle.std.specs.Cmp.{IsTotalOrder, ranks, then_total, on_total, nat_cmp_total}
 use Rattle.std.specs.Ordering.{is_lt, ordering_reverse, ordering_then, MatchOrdering, nat_cmp}
 use Rattle.model.specs.declared.decision.Decision.TheVariants.{Permit, Deny}
 use Rattle.model.specs.declared.decision.Status.TheVariants.{Ok}
@@ -44,11 +44,16 @@ compared_equal l m h =
 abbrev key : Line → List ℕ × (List ℕ × List ℕ)
 key l = (l.subject, (l.action, l.resource))
 
+key_total : IsTotalOrder (λ (p q : List ℕ × (List ℕ × List ℕ)). ordering_then (by_bytes p.0 q.0) (ordering_then (by_bytes p.1.0 q.1.0) (by_bytes p.1.1 q.1.1)))
+key_total =
+    let bytes = lists_total nat_cmp_total in
+    then_total (on_total (λ p. p.0) bytes) (on_total (λ p. p.1) (then_total (on_total (λ p. p.0) bytes) (on_total (λ p. p.1) bytes)))
+
 turned : (l m : Line) (o : Ordering) → compared l m ≡ o → compared m l ≡ ordering_reverse o
-turned l m o h = (pairs (lists_total nat_cmp_total) (then_total (on_total (λ p. p.0) (lists_total nat_cmp_total)) (on_total (λ p. p.1) (lists_total nat_cmp_total)))).flip (key m) (key l) ∙ ap ordering_reverse h
+turned l m o h = key_total.antisymm (key m) (key l) ∙ ap ordering_reverse h
 
 chained : (l m n : Line) → compared l m ≡ Less → compared m n ≡ Less → compared l n ≡ Less
-chained l m n = (pairs (lists_total nat_cmp_total) (then_total (on_total (λ p. p.0) (lists_total nat_cmp_total)) (on_total (λ p. p.1) (lists_total nat_cmp_total)))).trans (key l) (key m) (key n)
+chained l m n = key_total.trans (key l) (key m) (key n)
 
 is_less : (o : Ordering) → is_lt o ≡ true → o ≡ Less
 is_less Less h = refl

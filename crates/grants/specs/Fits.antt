@@ -5,7 +5,6 @@ use Rattle.std.proofs.lemmas.List.{length-map}
 use Rattle.model.specs.declared.decision.Decision.{Decision}
 use Rattle.model.specs.declared.decision.Decision.TheVariants.{Permit, Deny, Indeterminate, NotApplicable}
 use Rattle.model.specs.declared.decision.Status.TheVariants.{Ok, ProcessingError}
-use Rattle.model.specs.Content.{Element}
 use Rattle.model.specs.Points.{Answer, AnswerFits, PointFits, answers}
 use Rattle.model.specs.PointFiles.{Line, values, missing, repeated, same_line, first_line}
 use Rattle.grants.specs.declared.grants.Grants.{Grants}

@@ -1,13 +1,12 @@
 -- How a condition is judged attribute by attribute, a rule condition by condition, and a policy rule by rule. Assumes nothing.
-use Rattle.std.proofs.Common.{◌≡◌, ℕ, ◌+◌, ◌<◌, ◌≤◌, Bool, true, false, cond, ◌&&◌, ◌||◌, List, [], ◌∷◌, ◌++◌, map, length, get_or, drop, Some, sym, refl, ap, ◌∙◌, ap₂, arith}
+use Rattle.std.proofs.Common.{◌≡◌, ℕ, ◌+◌, ◌<◌, ◌≤◌, Bool, true, false, cond, ◌&&◌, ◌||◌, List, [], ◌∷◌, ◌++◌, map, length, get_or, drop, Some, sym, refl, ap, ◌∙◌, ap₂}
 use Rattle.std.specs.Option.{option_map}
-use Rattle.std.proofs.lemmas.List.{at_drop_more, at_drop_all, get_or-map, length-map}
+use Rattle.std.proofs.lemmas.List.{at_drop_more, at_drop_all}
 use Rattle.std.proofs.lemmas.Bool.{cond-true, cond-false, and_right}
 use Rattle.model.specs.Content.{Attribute, Element}
 use Rattle.model.specs.Lists.{keep, nth}
 use Rattle.model.specs.Values.{same}
-use Rattle.model.specs.Points.{Answer, answers}
-use Rattle.model.specs.PointFiles.{Condition, Rule, Truth, met, unmet, unknown, comparable, in_category, some_has, is_none, truth, both, all_of, rule_answer, first_rule}
+use Rattle.model.specs.PointFiles.{Condition, Truth, met, unmet, unknown, comparable, in_category, some_has, is_none, truth, both, all_of}
 use Rattle.single.specs.declared.seen.Seen.{Seen}
 use Rattle.single.specs.declared.single.SingleRequest.{SingleRequest}
 use Rattle.single.specs.Shown.{value_at, attribute_seen}

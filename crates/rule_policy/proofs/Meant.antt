@@ -1,17 +1,17 @@
 -- The computed answer is the one that the relations give, and only that. Assumes nothing.
-use Rattle.std.proofs.Common.{◌≡◌, ℕ, zero, suc, ◌+◌, ◌<◌, ◌≤◌, Bool, true, false, cond, ◌&&◌, ◌||◌, eqb, ◌⊎◌, ◌↔◌, List, [], ◌∷◌, ◌++◌, map, length, Some, None, Option, sym, refl, ap, ◌∙◌, subst, ap₂, inl, inr, ⊎_elim, add-zero, zero-add, arith}
+use Rattle.std.proofs.Common.{◌≡◌, ℕ, zero, suc, ◌+◌, ◌<◌, Bool, true, false, cond, ◌&&◌, eqb, ◌⊎◌, List, [], ◌∷◌, ◌++◌, map, length, Some, None, Option, sym, refl, ap, ◌∙◌, subst, inl, inr, ⊎_elim, add-zero, zero-add, arith}
 use Rattle.std.specs.List.{AllByRecursion as All}
 use Rattle.std.proofs.lemmas.List.{append-nil, append_assoc, length_push}
-use Rattle.std.proofs.lemmas.Bool.{and_parts, and_from, or_cases, or_left, or_right, cond-true, cond-false, eqb-true, eq-eqb, both_ways, cases_Bool}
+use Rattle.std.proofs.lemmas.Bool.{and_parts, and_from, or_cases, or_left, or_right, cond-true, eqb-true, eq-eqb, both_ways}
 use Rattle.model.specs.declared.decision.Decision.TheVariants as decision
 use Rattle.model.specs.declared.decision.Status.TheVariants as status
 use Rattle.model.specs.Content.{Attribute, Element}
 use Rattle.model.specs.Lists.{At, first, later, keep}
 use Rattle.model.specs.Values.{same}
 use Rattle.model.specs.Points.{Answer, answers}
-use Rattle.model.specs.PointFiles.{Condition, Rule, Truth, met, unmet, unknown, issued_by, comparable, in_category, compared, some_has, is_none, truth, both, all_of, rule_answer, first_rule, policy_point}
+use Rattle.model.specs.PointFiles.{Condition, Rule, Truth, met, unmet, unknown, issued_by, comparable, in_category, some_has, is_none, truth, both, all_of, rule_answer, first_rule, policy_point}
 use Rattle.single.proofs.Values.{same_is, same_self}
-use Rattle.rule_policy.specs.Meaning.{One, Issued, Compares, Equals, HasOne, Met, Indeterminate, False, Applies, Fails, Open, Reached, Gives, by_rule, by_open, by_none, FirstDecidingRule}
+use Rattle.rule_policy.specs.Meaning.{One, Issued, Compares, Equals, HasOne, Met, Indeterminate, False, Fails, Gives, by_rule, by_open, by_none, FirstDecidingRule}
 
 -- ONE OF A LIST
 

@@ -3,7 +3,7 @@ use Rattle.std.specs.Prelude.{◌≡◌, ℕ, ◌+◌, ◌≤◌, List, [], ◌�
 use mathlib.Core.List as list
 use Rattle.std.proofs.Common.{arith}
 use Rattle.model.specs.declared.decision.Decision.{Decision}
-use Rattle.model.specs.declared.decision.Decision.TheVariants.{Permit, Deny, Indeterminate, NotApplicable}
+use Rattle.model.specs.declared.decision.Decision.TheVariants.{Indeterminate, NotApplicable}
 use Rattle.model.specs.declared.decision.Status.{Status}
 use Rattle.model.specs.declared.decision.Status.TheVariants.{Ok, MissingAttribute}
 use Rattle.model.specs.Content.{Element}

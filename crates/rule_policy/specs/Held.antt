@@ -1,6 +1,6 @@
 -- What the tables of a rule policy hold, over its bytes. Assumes nothing.
 use mathlib.Core.List as list
-use Rattle.std.specs.Prelude.{ℕ, List, [], ◌∷◌, vec_items, Vec}
+use Rattle.std.specs.Prelude.{ℕ, List, vec_items, Vec}
 use Rattle.std.specs.Option.{option_map}
 use Rattle.std.specs.declared.alloc.Global.{Global}
 use Rattle.model.specs.declared.decision.Decision.{Decision}

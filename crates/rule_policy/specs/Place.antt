@@ -1,6 +1,6 @@
 -- What the place of a rule policy holds, and what is shown of it. Assumes nothing.
 use mathlib.Core.List as list
-use Rattle.std.specs.Prelude.{ℕ, List, vec_items}
+use Rattle.std.specs.Prelude.{List, vec_items}
 use Rattle.model.specs.PointFiles.{Rule, Condition, policy_point}
 use Rattle.model.specs.Points.{Point}
 use Rattle.wire.specs.declared.span.Span.{Span}

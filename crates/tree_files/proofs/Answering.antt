@@ -1,5 +1,5 @@
 -- What a kept tree answers. Assumes nothing.
-use Rattle.std.proofs.Common.{◌≡◌, ℕ, zero, suc, ◌<◌, ◌≤◌, List, [], ◌∷◌, length, get_or, Some, None, vec_items, vec_len, Option, sym, refl, ap, ◌∙◌, subst, arith}
+use Rattle.std.proofs.Common.{◌≡◌, ℕ, zero, suc, ◌<◌, ◌≤◌, List, [], ◌∷◌, length, get_or, Some, None, vec_items, Option, sym, refl, ◌∙◌, subst, arith}
 use Rattle.model.specs.Lists.{nth}
 use Rattle.model.specs.TreeFiles.{has_link}
 use Rattle.tree.specs.Questions.{least_child}

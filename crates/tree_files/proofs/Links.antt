@@ -1,14 +1,14 @@
 -- The links of a tree: what a search in them finds, and links in another order. Assumes nothing.
-use Rattle.std.proofs.Common.{◌≡◌, ℕ, zero, suc, ◌+◌, ◌-◌, ◌<◌, ◌≤◌, Bool, true, false, ◌&&◌, ◌||◌, eqb, ◌⊎◌, List, [], ◌∷◌, ◌++◌, length, get_or, Some, None, Ok, Err, Option, Ordering, Less, Equal, Greater, sym, refl, ap, ◌∙◌, subst, ap₂, inl, inr, ⊎_elim, arith}
+use Rattle.std.proofs.Common.{◌≡◌, ℕ, zero, suc, ◌+◌, ◌<◌, ◌≤◌, Bool, true, false, ◌&&◌, eqb, List, [], ◌∷◌, ◌++◌, length, get_or, Some, None, Err, Ordering, Less, Equal, Greater, sym, refl, ap, ◌∙◌, subst, ap₂, ⊎_elim, arith}
 use mathlib.Core.Path.{fun_ext}
 use Rattle.std.proofs.lemmas.List.{get_or_default, length_push, get_or_push, get_or_append_left}
-use Rattle.std.proofs.lemmas.List.Sorted.{sorted_far, searchable_from_sorted, IsPermutation-sym, length_permutation}
+use Rattle.std.proofs.lemmas.List.Sorted.{sorted_far, searchable_from_sorted, IsPermutation-sym}
 use Rattle.std.proofs.ByRecursion.{has_shuffled}
 use Rattle.std.proofs.lemmas.List.MinMax.{ranks_by}
-use Rattle.std.proofs.lemmas.Bool.{and_from, eq-eqb, or_left, or_right, cases_lt, cases_Bool, both_ways, true≢false}
+use Rattle.std.proofs.lemmas.Bool.{and_from, eq-eqb, or_left, or_right, cases_lt, cases_Bool, true≢false}
 use Rattle.std.specs.Cmp.{ranks, then_total, on_total, nat_cmp_total}
-use Rattle.std.specs.Ordering.{is_lt, is_gt, ordering_reverse, ordering_then, MatchOrdering, ordering_index, nat_cmp}
-use Rattle.std.specs.List.Sorted.{IsBinarySearchResult, IsPartitionPoint, IsNonDecreasingBy, IsPermutation, IsSortedWithin}
+use Rattle.std.specs.Ordering.{is_lt, ordering_then, MatchOrdering, nat_cmp}
+use Rattle.std.specs.List.Sorted.{IsBinarySearchResult, IsPartitionPoint, IsPermutation, IsSortedWithin}
 use Rattle.std.specs.List.{ContainsAt as Has}
 use Rattle.model.specs.TreeFiles.{has_link}
 use Rattle.tree.proofs.Firsts.{Least, none_passes, least_is}

@@ -1,17 +1,17 @@
 -- The table of nodes in the order of their names: what a search in it finds, and a name more. Assumes nothing.
-use Rattle.std.proofs.Common.{◌≡◌, ℕ, zero, suc, ◌+◌, ◌-◌, ◌<◌, ◌≤◌, Bool, true, false, ◌||◌, eqb, ◌⊎◌, List, [], ◌∷◌, ◌++◌, length, get_or, take, drop, Some, None, Ordering, Less, Equal, Greater, sym, refl, ap, ◌∙◌, subst, ap₂, inl, inr, ⊎_elim, add-one, arith}
+use Rattle.std.proofs.Common.{◌≡◌, ℕ, ◌+◌, ◌-◌, ◌<◌, ◌≤◌, Bool, true, false, ◌||◌, eqb, ◌⊎◌, List, [], ◌∷◌, ◌++◌, length, get_or, take, drop, Some, None, Ordering, Less, Equal, Greater, sym, refl, ap, ◌∙◌, subst, ap₂, inl, inr, ⊎_elim, arith}
 use Rattle.std.proofs.lemmas.List.Edits.{length-insert, get_or-insert_below, get_or-insert_at, get_or-insert_above}
 use Rattle.std.proofs.lemmas.List.{length_push, get_or_push, get_or_append_left, take-append-drop, map_push}
-use Rattle.std.proofs.lemmas.Bool.{cases_order, cases_lt, cases_eq, eq-eqb, or_left, or_right, or_cases}
+use Rattle.std.proofs.lemmas.Bool.{cases_order, cases_lt, eq-eqb, or_left, or_right, or_cases}
 use Rattle.std.specs.List.{insert}
 use Rattle.std.specs.Cmp.{ranks, nat_cmp_total}
-use Rattle.std.specs.Cmp.Lexicographic.{Lex, slice_cmp, lex-says, lists_total}
+use Rattle.std.specs.Cmp.Lexicographic.{lists_total}
 use Rattle.std.specs.Ordering.{is_lt, ordering_reverse, ordering_then, MatchOrdering, nat_cmp}
 use Rattle.model.specs.Lists.{any}
 use Rattle.model.specs.Spelling.{Between}
 use Rattle.model.specs.Tree.{numbered}
 use Rattle.model.specs.TreeFiles.{among}
-use Rattle.tree_files.specs.Limited.{is_less, less_apart, any_at, distinct_from}
+use Rattle.tree_files.specs.Limited.{is_less, any_at, distinct_from}
 use Rattle.wire.specs.declared.span.Span.{Span}
 use Rattle.wire.specs.Told.{spanned}
 use Rattle.tree_files.specs.Names.{texts_of, compared, name_at, Indexed, Parts, Stands, Fresh}
@@ -206,8 +206,8 @@ indexed_none = record {
 -- AS THE CODE HAS IT
 
 -- what a comparison told
-pub told_order : (text s t : List ℕ) (o : Ordering) → text ≡ s → Lex (λ (a b : ℕ) (k : Ordering). MatchOrdering k (a < b) (a ≡ b) (b < a)) text t o → compared s t ≡ o
-told_order text s t o e h = ap (λ u. compared u t) (sym e) ∙ sym (lex-says nat_cmp_total text t o h)
+pub told_order : (text s t : List ℕ) (o : Ordering) → text ≡ s → o ≡ compared text t → compared s t ≡ o
+told_order text s t o e h = ap (λ u. compared u t) (sym e) ∙ sym h
 
 pub names_more : (bytes : List ℕ) (names : List Span) (order : List ℕ) (names' : List Span) (order' : List ℕ) (s : Span) (i num : ℕ)
     → Indexed (texts_of bytes names) order → Fresh (texts_of bytes names) order (spanned bytes s) i

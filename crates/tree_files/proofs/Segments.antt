@@ -1,10 +1,10 @@
 -- Paths: what their tests say of segments, and the links that are found from them. Assumes nothing.
-use Rattle.std.proofs.Common.{◌≡◌, ℕ, zero, suc, ◌+◌, ◌-◌, ◌<◌, ◌≤◌, Bool, true, false, not, ◌&&◌, ◌||◌, eqb, ltb, ◌⊎◌, ◌↔◌, List, [], ◌∷◌, ◌++◌, length, get_or, take, drop, Some, None, Ok, Option, sym, refl, ap, ◌∙◌, subst, ap₂, inl, inr, ⊎_elim, arith}
+use Rattle.std.proofs.Common.{◌≡◌, ℕ, zero, suc, ◌+◌, ◌-◌, ◌<◌, ◌≤◌, Bool, true, false, not, ◌&&◌, ◌||◌, eqb, ltb, List, [], ◌∷◌, ◌++◌, length, get_or, take, drop, Some, None, Ok, Option, sym, refl, ap, ◌∙◌, subst, ap₂, ⊎_elim, arith}
 use mathlib.Core.Path.{fun_ext}
 use mathlib.Core.List.Memᴰ
 use mathlib.Core.List.{Memᴰ}
 use Rattle.std.proofs.lemmas.List.{length-append, length-drop, get_or-drop, get_or-append_right, take_at, drop_more, take-append-drop}
-use Rattle.std.proofs.lemmas.Bool.{and_parts, and_from, and_left, and_right, or_cases, or_left, or_right, or_from, eqb-true, eq-eqb, eqb-false, ne_eqb, not-true, not_from_false, lt-ltb, le-ltb, ltb-true, cases_lt, cases_eq, cases_order, cases_Bool, both_ways, false≢true}
+use Rattle.std.proofs.lemmas.Bool.{and_parts, and_from, and_left, and_right, or_left, or_right, or_from, eqb-true, eq-eqb, eqb-false, ne_eqb, not-true, not_from_false, lt-ltb, le-ltb, ltb-true, cases_lt, cases_eq, cases_order, cases_Bool, both_ways, false≢true}
 use Rattle.model.specs.Lists.{any}
 use Rattle.model.specs.Layout.{Reading, got, refused, on, end, outcome}
 use Rattle.model.specs.Tree.{Tree, numbered}

@@ -1,5 +1,5 @@
 -- Every tree that is kept has the limits of trees. Assumes nothing.
-use Rattle.std.specs.Prelude.{◌≡◌, ℕ, zero, suc, ◌<◌, ◌≤◌, Bool, true, false, ◌&&◌, ◌||◌, List, [], ◌∷◌, length, get_or, vec_items, vec_len, ◌==◌, ◌≢◌, nat_eq, slice_index, slice_index_or, refl}
+use Rattle.std.specs.Prelude.{◌≡◌, ℕ, suc, ◌<◌, ◌≤◌, true, ◌&&◌, List, [], ◌∷◌, length, get_or, vec_items, vec_len, ◌==◌, ◌≢◌, nat_eq, slice_index, slice_index_or, refl}
 use Rattle.std.specs.declared.cmp.Ordering.TheVariants.{Less, Equal, Greater}
 use Rattle.std.specs.declared.cmp.Ordering.{Ordering}
 use Rattle.std.proofs.Common.{sym, ap, subst, ◌∙◌, ⊎_elim, arith}
@@ -8,7 +8,7 @@ use Rattle.std.proofs.lemmas.Bool.{eqb-true, or_cases, and_parts, false≢true, 
 use Rattle.std.specs.Ordering.{is_lt, ordering_reverse}
 use Rattle.std.specs.Cmp.{nat_cmp_total}
 use Rattle.model.specs.Lists.{any}
-use Rattle.model.specs.Tree.{Tree, Limits}
+use Rattle.model.specs.Tree.{Limits}
 use Rattle.model.specs.TreeFiles.{has_link, linked_tree}
 use Rattle.wire.specs.Told.{spanned}
 use Rattle.tree_files.specs.declared.kept.Kept.{Kept}
@@ -16,7 +16,7 @@ use Rattle.tree_files.specs.declared.linked.LinkedTree.{LinkedTree}
 use Rattle.tree_files.specs.declared.paths.PathTree.{PathTree}
 use Rattle.tree_files.specs.Kept.{tree_of}
 use Rattle.tree_files.specs.Trees.{linked_of, path_of}
-use Rattle.tree_files.specs.Names.{texts_of, compared, name_at, Named, Ascending, Complete, InsideOf}
+use Rattle.tree_files.specs.Names.{texts_of, compared, name_at, Named, Ascending, Complete}
 use Rattle.tree_files.specs.Links.{Ends}
 use Rattle.std.specs.Cmp.Lexicographic.{lists_total}
 

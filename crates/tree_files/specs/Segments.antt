@@ -1,5 +1,5 @@
 -- Paths, in the words of segments. Assumes nothing.
-use Rattle.std.specs.Prelude.{◌≡◌, ℕ, ◌+◌, ◌<◌, ◌≤◌, Bool, true, false, ◌&&◌, ◌↔◌, List, [], ◌∷◌, ◌++◌, length, Some, None, Option, ◌≢◌, nat_lt, slice_index, slice_index_or}
+use Rattle.std.specs.Prelude.{◌≡◌, ℕ, ◌<◌, ◌≤◌, true, ◌&&◌, ◌↔◌, List, [], ◌∷◌, ◌++◌, length, Some, None, Option, ◌≢◌, nat_lt, slice_index, slice_index_or}
 use mathlib.Core.List.{Memᴰ}
 use Rattle.model.specs.Tree.{Tree, count}
 use Rattle.model.specs.TreeFiles.{separator, child_path, linked_by_path, has_link}

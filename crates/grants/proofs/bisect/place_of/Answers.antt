@@ -23,8 +23,8 @@ bounds-lines-order c =
     let h : m < length c.args.order.now = omega (arith, c.loop-low.invariant.1) in
     inside c.args.bytes.now c.args.lines.now c.args.order.now c.requires m h
 
-pub offset-bounds-lines-order : goal.offset-bounds-lines-order
-offset-bounds-lines-order c =
+pub offset_bounds-lines-order : goal.offset_bounds-lines-order
+offset_bounds-lines-order c =
     let m : ℕ = c.loop-low.low + (c.loop-low.high - c.loop-low.low) / 2 in
     let h : m < length c.args.order.now = omega (arith, c.loop-low.invariant.1) in
     let i = inside c.args.bytes.now c.args.lines.now c.args.order.now c.requires m h in

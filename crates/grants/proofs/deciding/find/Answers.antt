@@ -1,4 +1,4 @@
-use Rattle.std.proofs.Common.{◌≡◌, ◌+◌, ◌<◌, ◌≤◌, ◌++◌, length, drop, sym, ap, ◌∙◌, arith}
+use Rattle.std.proofs.Common.{◌+◌, ◌<◌, ◌≤◌, ◌++◌, length, drop, sym, ap, ◌∙◌, arith}
 use Rattle.std.proofs.lemmas.List.{drop_all}
 use Rattle.model.specs.PointFiles.{in_category}
 use Rattle.single.specs.Single.{content, attributes_at}
@@ -7,16 +7,16 @@ use Rattle.single.proofs.Categories.{category_passed, category_entered}
 use Rattle.grants.specs.Found.{found_in}
 use Rattle.grants.proofs.Granting.{gather, values_left, find_skip, find_first, find_again, find_end, found_missing}
 use Rattle.grants.proofs.deciding.find.Goals as goal
-use Rattle.grants.proofs.deciding.find.Goals.{then-attribute-id+in-Missing, else-attribute-id, then-has-category+else-loop-j-test, else-has-category}
+use Rattle.grants.proofs.deciding.find.Goals.{then-attribute-id+in-Missing, else-attribute-id, then-has_category+else-loop-j-test, else-has_category}
 
 pub loop-j-init : goal.loop-j-init
 loop-j-init c =
     let lt : c.elements.i < length (content c.args.request.now) = omega arith in
-    sym (ap (λ l. gather (found_in c.args.request.now c.elements.found) (values_left c.args.id l)) (category_entered _ _ _ lt (sym c.if-has-category.ensures))) ∙ c.elements.invariant
+    sym (ap (λ l. gather (found_in c.args.request.now c.elements.found) (values_left c.args.id l)) (category_entered _ _ _ lt (sym c.if-has_category.ensures))) ∙ c.elements.invariant
 
-pub loop-j-preserved-in-default : goal.loop-j-preserved-in-default
-loop-j-preserved-in-default c =
-    let past = nth_none (attributes_at (content c.args.request.now) c.elements.i) c.loop-j.j c.in-default.ensures in
+pub loop-j-preserved-in_default : goal.loop-j-preserved-in_default
+loop-j-preserved-in_default c =
+    let past = nth_none (attributes_at (content c.args.request.now) c.elements.i) c.loop-j.j c.in_default.ensures in
     absurd (omega (arith, past, c.loop-j-test.true, c.attributes-j-end.ensures))
 
 pub loop-j-preserved : goal.loop-j-preserved
@@ -38,15 +38,15 @@ elements-preserved c =
     let es = content c.args.request.now in
     let rest = in_category c.args.category (drop (c.elements.i + 1) es) in
     let lt : c.elements.i < length es = omega arith in
-    elim c.if-has-category.branch [
-      | then-has-category+else-loop-j-test w ↦
+    elim c.if-has_category.branch [
+      | then-has_category+else-loop-j-test w ↦
           let le : length (attributes_at es c.elements.i) ≤ w.loop-j.j = omega (arith, w.loop-j-test.false, w.attributes-j-end.ensures) in
           ap (λ f. gather (found_in c.args.request.now f) (values_left c.args.id rest)) w.found-is
           ∙ sym (ap (λ l. gather (found_in c.args.request.now w.loop-j.found) (values_left c.args.id (l ++ rest))) (drop_all _ _ le))
           ∙ w.loop-j.invariant
-      | else-has-category w ↦
+      | else-has_category w ↦
           ap (λ f. gather (found_in c.args.request.now f) (values_left c.args.id rest)) w.found-is
-          ∙ sym (ap (λ l. gather (found_in c.args.request.now c.elements.found) (values_left c.args.id l)) (category_passed es _ _ lt (sym w.if-has-category.ensures)))
+          ∙ sym (ap (λ l. gather (found_in c.args.request.now c.elements.found) (values_left c.args.id l)) (category_passed es _ _ lt (sym w.if-has_category.ensures)))
           ∙ c.elements.invariant
     ]
 
@@ -55,6 +55,6 @@ returns-then-i-elements c =
     let le : length (content c.args.request.now) ≤ c.elements.i = omega arith in
     find_end _ _ _ c.args.category _ _ le c.elements.invariant
 
-pub returns-in-default-found : goal.returns-in-default-found
-returns-in-default-found c =
-    find_again c.args.request.now _ c.elements.i c.loop-j.j c.in-Some.attribute _ c.in-Some.ensures _ _ c.loop-j.invariant c.if-attribute-id.true (λ e. c.in-default-found.not-Missing (found_missing c.args.request.now _ e))
+pub returns-in_default-found : goal.returns-in_default-found
+returns-in_default-found c =
+    find_again c.args.request.now _ c.elements.i c.loop-j.j c.in-Some.attribute _ c.in-Some.ensures _ _ c.loop-j.invariant c.if-attribute-id.true (λ e. c.in_default-found.not-Missing (found_missing c.args.request.now _ e))

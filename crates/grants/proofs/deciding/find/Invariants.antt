@@ -1,7 +1,7 @@
 use Rattle.std.proofs.Common.{◌≡◌, ◌+◌, ◌-◌, ◌++◌, length, drop}
 use Rattle.model.specs.PointFiles.{in_category, values}
 use Rattle.single.specs.Single.{content, attributes_at}
-use Rattle.grants.specs.Found.{goal as given_by, found_in}
+use Rattle.grants.specs.Found.{given as given_by, found_in}
 use Rattle.grants.proofs.Granting.{gather, values_left}
 use Rattle.grants.proofs.deciding.find.Given as goal
 

@@ -14,15 +14,15 @@ use Rattle.grants.proofs.read.put_in_order.Goals as goal
 texts_of : (s a r : List ℕ) (l : Line) → s ≡ l.subject → a ≡ l.action → r ≡ l.resource → asked_line s a r ≡ l
 texts_of s a r l p q t = λ i. asked_line (p i) (q i) (t i)
 
-pub returns-in-default : goal.returns-in-default
-returns-in-default c =
+pub returns-in_default : goal.returns-in_default
+returns-in_default c =
     let bytes = c.args.bytes.now in
     let lines = lines_at bytes c.args.lines.now in
     let line = line_of bytes c.args.line in
     let order = vec_items c.args.order.now in
-    let i = c.in-default.field-0 in
+    let i = c.in_default.field-0 in
     let q = texts_of _ _ _ line c.part-subject.ensures c.part-action.ensures c.part-resource.ensures in
-    let s = subst (λ o. Stands lines o line i) c.as-slice.ensures.value (subst (λ l. Stands lines c.as-slice.result.now l i) q c.in-default.ensures) in
+    let s = subst (λ o. Stands lines o line i) c.as_slice.ensures.value (subst (λ l. Stands lines c.as_slice.result.now l i) q c.in_default.ensures) in
     record { indexed = indexed_again lines line order c.requires.indexed i s; longer = omega arith; room = refl }
 
 pub returns : goal.returns
@@ -33,7 +33,7 @@ returns c =
     let order = vec_items c.args.order.now in
     let i = c.in-Err.at in
     let q = texts_of _ _ _ line c.part-subject.ensures c.part-action.ensures c.part-resource.ensures in
-    let p = subst (λ o. Parts lines o line i) c.as-slice.ensures.value (subst (λ l. Parts lines c.as-slice.result.now l i) q c.in-Err.ensures) in
+    let p = subst (λ o. Parts lines o line i) c.as_slice.ensures.value (subst (λ l. Parts lines c.as_slice.result.now l i) q c.in-Err.ensures) in
     let n : length c.args.lines.now ≡ length lines = sym (length-map c.args.lines.now (line_of bytes)) in
     let put = c.insert.ensures.items ∙ cond-true (is_ok c.insert.result) _ _ (c.insert.ensures.succeeds c.requires.room) in
     let long = length-insert order i (length c.args.lines.now) p.high in

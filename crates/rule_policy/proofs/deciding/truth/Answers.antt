@@ -1,4 +1,4 @@
-use Rattle.std.proofs.Common.{◌≡◌, ◌+◌, ◌<◌, ◌≤◌, ◌++◌, length, drop, sym, ap, ◌∙◌, arith}
+use Rattle.std.proofs.Common.{◌+◌, ◌<◌, ◌≤◌, ◌++◌, length, drop, sym, ap, ◌∙◌, arith}
 use Rattle.std.proofs.lemmas.List.{drop_all}
 use Rattle.model.specs.PointFiles.{in_category}
 use Rattle.single.specs.Single.{content, attributes_at}
@@ -7,16 +7,16 @@ use Rattle.single.proofs.Categories.{category_passed, category_entered}
 use Rattle.rule_policy.specs.Held.{condition_of}
 use Rattle.rule_policy.proofs.Judging.{judge, judge_end, left_unknown, left_compared, left_optional, turn_skip, turn_met, turn_compared}
 use Rattle.rule_policy.proofs.deciding.truth.Goals as goal
-use Rattle.rule_policy.proofs.deciding.truth.Goals.{then-compares+else-same-bytes, else-compares, then-has-category+else-loop-j-test, else-has-category, else-condition-via-then-condition+else-not-compared, else-condition-via-else-condition}
+use Rattle.rule_policy.proofs.deciding.truth.Goals.{then-compares+else-same_bytes, else-compares, then-has_category+else-loop-j-test, else-has_category, else-condition-via-then-condition+else-not-compared, else-condition-via-else-condition}
 
 pub loop-j-init : goal.loop-j-init
 loop-j-init c =
     let lt : c.elements.i < length (content c.args.request.now) = omega arith in
-    sym (ap (judge (condition_of c.args.texts.now c.args.condition) c.elements.compared) (category_entered _ _ _ lt (sym c.if-has-category.ensures))) ∙ c.elements.invariant
+    sym (ap (judge (condition_of c.args.texts.now c.args.condition) c.elements.compared) (category_entered _ _ _ lt (sym c.if-has_category.ensures))) ∙ c.elements.invariant
 
-pub loop-j-preserved-in-default : goal.loop-j-preserved-in-default
-loop-j-preserved-in-default c =
-    let past = nth_none (attributes_at (content c.args.request.now) c.elements.i) c.loop-j.j c.in-default.ensures in
+pub loop-j-preserved-in_default : goal.loop-j-preserved-in_default
+loop-j-preserved-in_default c =
+    let past = nth_none (attributes_at (content c.args.request.now) c.elements.i) c.loop-j.j c.in_default.ensures in
     absurd (omega (arith, past, c.loop-j-test.true, c.attributes-j-end.ensures))
 
 pub loop-j-preserved : goal.loop-j-preserved
@@ -25,9 +25,9 @@ loop-j-preserved c =
     let rest = in_category c.args.condition.category (drop (c.elements.i + 1) (content c.args.request.now)) in
     let left = drop (c.loop-j.j + 1) (attributes_at (content c.args.request.now) c.elements.i) ++ rest in
     elim c.if-compares.branch [
-      | then-compares+else-same-bytes w ↦
+      | then-compares+else-same_bytes w ↦
           ap (λ b. judge k b left) w.compared-is
-          ∙ sym (turn_compared c.args.request.now k c.loop-j.compared c.elements.i c.loop-j.j c.in-Some.attribute _ _ rest c.bytes-bytes.ensures c.name-name.ensures c.in-Some.ensures _ _ w.if-compares.ensures w.value.ensures c.part-wanted.ensures w.if-same-bytes.ensures)
+          ∙ sym (turn_compared c.args.request.now k c.loop-j.compared c.elements.i c.loop-j.j c.in-Some.attribute _ _ rest c.bytes-bytes.ensures c.name-name.ensures c.in-Some.ensures _ _ w.if-compares.ensures w.value.ensures c.part-wanted.ensures w.if-same_bytes.ensures)
           ∙ c.loop-j.invariant
       | else-compares w ↦
           ap (λ b. judge k b left) w.compared-is
@@ -41,15 +41,15 @@ elements-preserved c =
     let es = content c.args.request.now in
     let rest = in_category c.args.condition.category (drop (c.elements.i + 1) es) in
     let lt : c.elements.i < length es = omega arith in
-    elim c.if-has-category.branch [
-      | then-has-category+else-loop-j-test w ↦
+    elim c.if-has_category.branch [
+      | then-has_category+else-loop-j-test w ↦
           let le : length (attributes_at es c.elements.i) ≤ w.loop-j.j = omega (arith, w.loop-j-test.false, w.attributes-j-end.ensures) in
           ap (λ b. judge k b rest) w.compared-is
           ∙ sym (ap (λ l. judge k w.loop-j.compared (l ++ rest)) (drop_all _ _ le))
           ∙ w.loop-j.invariant
-      | else-has-category w ↦
+      | else-has_category w ↦
           ap (λ b. judge k b rest) w.compared-is
-          ∙ sym (ap (judge k c.elements.compared) (category_passed es _ _ lt (sym w.if-has-category.ensures)))
+          ∙ sym (ap (judge k c.elements.compared) (category_passed es _ _ lt (sym w.if-has_category.ensures)))
           ∙ c.elements.invariant
     ]
 
@@ -70,7 +70,7 @@ returns-else-condition c =
       | else-condition-via-else-condition w ↦ sym (judge_end k _ es _ _ le ∙ left_optional k _ w.if-condition.false) ∙ c.elements.invariant
     ]
 
-pub returns-then-same-bytes : goal.returns-then-same-bytes
-returns-then-same-bytes c =
-    sym (turn_met c.args.request.now (condition_of c.args.texts.now c.args.condition) c.loop-j.compared c.elements.i c.loop-j.j c.in-Some.attribute _ _ _ c.bytes-bytes.ensures c.name-name.ensures c.in-Some.ensures _ _ c.if-compares.ensures c.value.ensures c.part-wanted.ensures c.if-same-bytes.ensures)
+pub returns-then-same_bytes : goal.returns-then-same_bytes
+returns-then-same_bytes c =
+    sym (turn_met c.args.request.now (condition_of c.args.texts.now c.args.condition) c.loop-j.compared c.elements.i c.loop-j.j c.in-Some.attribute _ _ _ c.bytes-bytes.ensures c.name-name.ensures c.in-Some.ensures _ _ c.if-compares.ensures c.value.ensures c.part-wanted.ensures c.if-same_bytes.ensures)
     ∙ c.loop-j.invariant

@@ -1,4 +1,4 @@
-use Rattle.std.proofs.Common.{◌≡◌, get_or, sym}
+use Rattle.std.proofs.Common.{sym}
 use Rattle.tree_files.specs.Names.{texts_of}
 use Rattle.tree_files.proofs.Order.{one_numbered, none_numbered}
 use Rattle.tree_files.proofs.search.node_named.Goals as goal

@@ -1,4 +1,4 @@
-use Rattle.std.proofs.Common.{◌≡◌, ℕ, ◌+◌, ◌-◌, ◌/◌, ◌<◌, length, get_or, Less, Equal, Greater, ◌∙◌, arith}
+use Rattle.std.proofs.Common.{ℕ, ◌+◌, ◌-◌, ◌/◌, ◌<◌, length, get_or, Less, Equal, Greater, ◌∙◌, arith}
 use lib.ListN.{length-map}
 use Rattle.wire.specs.Told.{spanned}
 use Rattle.tree_files.specs.Names.{texts_of}

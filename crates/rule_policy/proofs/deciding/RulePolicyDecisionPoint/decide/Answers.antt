@@ -1,4 +1,3 @@
-use Rattle.std.proofs.Common.{◌<◌, ◌≤◌, length, arith}
 use Rattle.rule_policy.proofs.Judging.{met_turn, unknown_turn}
 use Rattle.rule_policy.proofs.Ruling.{rule_fails, rule_applies, rule_open, no_rule}
 use Rattle.rule_policy.proofs.deciding.RulePolicyDecisionPoint.decide.Goals as goal

@@ -1,4 +1,4 @@
-use Rattle.std.proofs.Common.{◌≡◌, ◌-◌, ◌≤◌, length, drop}
+use Rattle.std.proofs.Common.{◌≡◌, ◌-◌, length, drop}
 use Rattle.model.specs.PointFiles.{first_rule, policy_point}
 use Rattle.single.specs.Single.{content}
 use Rattle.rule_policy.specs.Place.{rules_of}

@@ -10,16 +10,16 @@ use Rattle.rule_policy.specs.Refused.{in_policy_fault}
 use Rattle.rule_policy.proofs.policy.RulePolicy.open.Goals as goal
 
 -- a refusal: what was held before is held
-pub returns-in-err-read : goal.returns-in-err-read
-returns-in-err-read c =
+pub returns-in_err-read : goal.returns-in_err-read
+returns-in_err-read c =
     let bytes = c.args.bytes.now in
-    let rules : List Rule = rules_of c.args.self.now in
-    let a : answered in_policy_fault rules c.from-residual.result ≡ read_policy bytes = search rules in
-    record { answer = a; spelled = opened in_policy_fault PolicySpelling bytes (read_policy bytes) (points_accepted_exactly.0 bytes) rules c.from-residual.result a; kept = search rules }
+    let held : List Rule = rules_of c.args.self.now in
+    let a : answered in_policy_fault held c.from_residual.result ≡ read_policy bytes = search rules in
+    record { answer = a; spelled = opened in_policy_fault PolicySpelling bytes (read_policy bytes) (points_accepted_exactly.0 bytes) held c.from_residual.result a; kept = search rules }
 
 pub returns : goal.returns
 returns c =
     let bytes = c.args.bytes.now in
-    let rules : List Rule = rules_of_held bytes c.swap.new.x in
-    let a : answered in_policy_fault rules (Ok tt) ≡ read_policy bytes = search rules in
-    record { answer = a; spelled = opened in_policy_fault PolicySpelling bytes (read_policy bytes) (points_accepted_exactly.0 bytes) rules (Ok tt) a; kept = tt }
+    let held : List Rule = rules_of_held bytes c.swap.new.x in
+    let a : answered in_policy_fault held (Ok tt) ≡ read_policy bytes = search rules in
+    record { answer = a; spelled = opened in_policy_fault PolicySpelling bytes (read_policy bytes) (points_accepted_exactly.0 bytes) held (Ok tt) a; kept = tt }

@@ -1,4 +1,4 @@
-use Rattle.std.proofs.Common.{◌≡◌, ◌+◌, ◌*◌, ◌≤◌, vec_items, vec_len, vec_capacity}
+use Rattle.std.proofs.Common.{◌≡◌, ◌*◌, ◌≤◌, vec_items, vec_len, vec_capacity}
 use Rattle.model.specs.Layout.{many}
 use Rattle.model.specs.PointFiles.{one_rule}
 use Rattle.wire.proofs.Left.{Left}

@@ -1,4 +1,4 @@
-use Rattle.std.proofs.Common.{◌≡◌, vec_items, sym, ◌∙◌, subst}
+use Rattle.std.proofs.Common.{vec_items, sym, ◌∙◌, subst}
 use lib.ListN.{length-map}
 use Rattle.wire.specs.Told.{spanned}
 use Rattle.tree_files.specs.Held.{Good}
@@ -10,4 +10,4 @@ invariant_of-self c =
     let g : Good c.args.bytes.now t = subst (Good c.args.bytes.now) (sym c.swap.ensures.x_after) c.requires in
     let x = g.indexed in
     let many = t.order.ok.0 ∙ x.as_many ∙ length-map (vec_items t.names) (spanned c.args.bytes.now) ∙ sym t.names.ok.0 in
-    (g.few, (many, (x.named, (x.inside, (x.ascending, (x.complete, (g.ends, (g.sorted, tt))))))))
+    record { few = g.few; as_many = many; named = x.named; inside = x.inside; ascending = x.ascending; complete = x.complete; ends = g.ends; sorted = g.sorted }

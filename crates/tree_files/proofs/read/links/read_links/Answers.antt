@@ -1,4 +1,4 @@
-use Rattle.std.proofs.Common.{◌≡◌, vec_items, sym, refl, subst, arith, rules}
+use Rattle.std.proofs.Common.{vec_items, sym, refl, subst, arith, rules}
 use Rattle.std.proofs.lemmas.List.{nil_from_length}
 use Rattle.wire.proofs.Left.{one_less}
 use Rattle.wire.proofs.Exits.{told_refused}

@@ -1,4 +1,4 @@
-use Rattle.std.proofs.Common.{◌≡◌, ◌<◌, ◌≤◌, true, List, [], length, is_ok, vec_items, vec_len, vec_capacity, sym, refl, ap, ◌∙◌, subst, arith, rules}
+use Rattle.std.proofs.Common.{◌≡◌, ◌<◌, List, [], length, is_ok, vec_items, vec_len, vec_capacity, sym, refl, ap, ◌∙◌, subst, arith, rules}
 use lib.ListN.{length-map}
 use Rattle.std.proofs.lemmas.List.{nil_from_length, map_push}
 use Rattle.std.proofs.lemmas.Bool.{cond-true}
@@ -35,10 +35,10 @@ loop-number-init c =
 
 pub returns-in_err-new : goal.returns-in_err-new
 returns-in_err-new c =
-    let e = c.in_err-new.ensures.read in
     let v = c.as_slice.ensures.value in
+    let e = rw v at c.in_err-new.ensures.read in
     record {
-      read = told_refused in_tree_fault (always (texts_of c.args.bytes.now (vec_items c.loop-number.names))) (Name c.in_err-new.field-0.0) c.args.bytes.now c.numbered_name.new.place _ c.from_residual-in_err-new.result c.from_residual-in_err-new.ensures.1 (search (rules, one_less, e, v));
+      read = told_refused in_tree_fault (always (texts_of c.args.bytes.now (vec_items c.loop-number.names))) (Name c.in_err-new.field-0.0) c.args.bytes.now c.numbered_name.new.place _ c.from_residual-in_err-new.result c.from_residual-in_err-new.ensures.1 (search (rules, one_less, e));
       indexed = c.loop-number.invariant.1;
       few = omega (arith, c.loop-number.invariant.2, c.in_ok-count.ensures.high);
       room = (c.loop-number.invariant.3, c.loop-number.invariant.4);
@@ -51,8 +51,8 @@ loop-number-preserved c =
     let order = c.loop-number.order in
     let new = c.in_ok-new.new in
     let o = c.in_ok-new.ensures in
-    let r = o.read in
     let v = c.as_slice.ensures.value in
+    let r = rw v at o.read in
     let w = c.as_slice-in-loop-number.ensures.value in
     let i = c.push_reserved.ensures.items in
     let x = c.loop-number.invariant.1 in
@@ -61,4 +61,4 @@ loop-number-preserved c =
     let put = c.insert.ensures.items ∙ cond-true (is_ok c.insert.result) _ _ (c.insert.ensures.succeeds room) in
     let f = subst (λ l. Fresh (texts_of bytes (vec_items names)) l (name_in bytes new) new.at) w (subst (λ l. Fresh (texts_of bytes l) c.as_slice-in-loop-number.result.now (name_in bytes new) new.at) v o.fresh) in
     let texts = ap (texts_of bytes) i ∙ map_push (spanned bytes) (vec_items names) new.name in
-    (search (rules, one_less, texts, r, v), names_more bytes (vec_items names) (vec_items order) _ _ new.name new.at _ x f i put (sym count), omega arith, search rules, (c.insert.ensures.in_place room).1.0 ∙ c.loop-number.invariant.4)
+    (search (rules, one_less, texts, r), names_more bytes (vec_items names) (vec_items order) _ _ new.name new.at _ x f i put (sym count), omega arith, search rules, (c.insert.ensures.in_place room).1.0 ∙ c.loop-number.invariant.4)

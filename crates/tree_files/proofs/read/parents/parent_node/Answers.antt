@@ -1,4 +1,3 @@
-use Rattle.std.proofs.Common.{Some}
 use Rattle.tree_files.specs.Names.{texts_of}
 use Rattle.tree_files.proofs.Segments.{node_of_parent, no_parent}
 use Rattle.tree_files.proofs.read.parents.parent_node.Goals as goal

@@ -1,4 +1,4 @@
-use Rattle.std.proofs.Common.{◌≡◌, ◌-◌, take, Some, sym, subst, arith}
+use Rattle.std.proofs.Common.{◌≡◌, ◌-◌, take, Some, subst, arith}
 use Rattle.tree_files.specs.Segments.{Parent}
 use Rattle.tree_files.proofs.Segments.{no_separator, last_empty, last_parent}
 use Rattle.tree_files.proofs.read.parents.parent_path.Goals as goal

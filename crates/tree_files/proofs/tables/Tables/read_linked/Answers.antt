@@ -1,4 +1,4 @@
-use Rattle.std.proofs.Common.{◌≡◌, ℕ, Bool, length, drop, Ok, vec_items, vec_len, Result, sym, ap, ◌∙◌, subst}
+use Rattle.std.proofs.Common.{◌≡◌, ℕ, Bool, length, drop, Ok, vec_items, vec_len, Result, sym, refl, ap, ◌∙◌, subst}
 use lib.ListN.{length-map}
 use Rattle.std.proofs.lemmas.Result.{IfOk-from_err}
 use Rattle.model.specs.Layout.{Refusal}
@@ -52,8 +52,8 @@ returns c =
     let n : c.len-nodes.result ≡ length texts = c.len-nodes.ensures ∙ names.ok.0 ∙ sym (length-map (vec_items names) (spanned bytes)) in
     let e = c.in_ok-read_links.ensures.read ∙ ap (λ m. link_list m p (drop p bytes)) n in
     let read = vec_items c.read_links.new.links in
-    let sorted = vec_items c.sort.new.self in
-    let s = c.sort.ensures.permutation in
+    let sorted = vec_items c.sort_unstable.new.self in
+    let s = c.sort_unstable.ensures.permutation in
     let with_links : (ℕ → ℕ → Bool) → Result Tree Refusal = λ f. Ok (record { names = texts; linked = f }) in
     record {
       answer = ap with_links (sym (same_links read sorted s)) ∙ linked_read bytes texts p (drop p bytes) c.in_ok-read_names.ensures.read read q (drop q bytes) e tt q (drop q bytes) c.in_ok-end.ensures;
@@ -61,6 +61,6 @@ returns c =
         few = c.in_ok-read_names.ensures.few;
         indexed = c.in_ok-read_names.ensures.indexed;
         ends = ends_shuffled read sorted s (vec_len names) (subst (λ m. Ends m read) c.len-nodes.ensures c.in_ok-read_links.ensures.inside);
-        sorted = ascending_from sorted c.read_links.new.links.len (sym c.sort.ensures.len ∙ c.sort.new.self.ok.0) c.sort.ensures.sorted;
+        sorted = ascending_from sorted (length sorted) refl c.sort_unstable.ensures.sorted;
       };
     }

@@ -1,4 +1,4 @@
-use Rattle.std.proofs.Common.{◌≡◌, ℕ, Bool, length, drop, Ok, vec_items, vec_len, Result, sym, ap, ◌∙◌, subst}
+use Rattle.std.proofs.Common.{◌≡◌, ℕ, Bool, length, drop, Ok, vec_items, vec_len, Result, sym, refl, ap, ◌∙◌, subst}
 use lib.ListN.{length-map}
 use Rattle.model.specs.Layout.{Refusal}
 use Rattle.model.specs.Tree.{Tree}
@@ -19,8 +19,8 @@ returns c =
     let p = c.read_names.new.place in
     let is = c.as_slice-names.ensures.value in
     let found = vec_items c.link_paths.new.links in
-    let sorted = vec_items c.sort.new.self in
-    let s = c.sort.ensures.permutation in
+    let sorted = vec_items c.sort_unstable.new.self in
+    let s = c.sort_unstable.ensures.permutation in
     let long : length (vec_items names) ≡ length texts = sym (length-map (vec_items names) (spanned bytes)) in
     let l = subst (λ n. LinkedBelow texts found n) long (subst (λ x. LinkedBelow (texts_of bytes x) found (length x)) is c.link_paths.ensures.linked) in
     let ends = subst (λ n. Ends n found) (sym names.ok.0) (subst (λ x. Ends (length x) found) is c.link_paths.ensures.ends) in
@@ -31,6 +31,6 @@ returns c =
         few = c.in_ok-read_names.ensures.few;
         indexed = c.in_ok-read_names.ensures.indexed;
         ends = ends_shuffled found sorted s (vec_len names) ends;
-        sorted = ascending_from sorted c.link_paths.new.links.len (sym c.sort.ensures.len ∙ c.sort.new.self.ok.0) c.sort.ensures.sorted;
+        sorted = ascending_from sorted (length sorted) refl c.sort_unstable.ensures.sorted;
       };
     }

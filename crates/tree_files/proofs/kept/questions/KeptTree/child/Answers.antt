@@ -1,4 +1,4 @@
-use Rattle.std.proofs.Common.{◌≡◌, Some, None, sym, subst}
+use Rattle.std.proofs.Common.{Some, None, sym, subst}
 use Rattle.tree_files.specs.Links.{LinkAscending}
 use Rattle.tree_files.proofs.Answering.{least_answer}
 use Rattle.tree_files.proofs.Links.{least_found, least_next, least_other, least_past, parted}

@@ -1,4 +1,4 @@
-use Rattle.std.proofs.Common.{◌≡◌, sym, subst}
+use Rattle.std.proofs.Common.{sym, subst}
 use Rattle.tree_files.specs.Names.{texts_of, Indexed}
 use Rattle.tree_files.proofs.Answering.{kept_indexed}
 use Rattle.tree_files.proofs.kept.questions.KeptTree.find.Goals as goal

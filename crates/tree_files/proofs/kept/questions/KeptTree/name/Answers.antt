@@ -1,4 +1,4 @@
-use Rattle.std.proofs.Common.{◌≡◌, ◌<◌, ◌≤◌, [], length, Some, vec_items, vec_len, sym, ap, ◌∙◌, arith}
+use Rattle.std.proofs.Common.{◌<◌, ◌≤◌, [], length, Some, vec_items, sym, ap, ◌∙◌, arith}
 use Rattle.wire.specs.Told.{spanned}
 use Rattle.tree_files.specs.Limited.{as_many}
 use Rattle.tree_files.specs.Names.{texts_of}
