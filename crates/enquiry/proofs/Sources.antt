@@ -1,6 +1,6 @@
 -- What holds of every request that an enquiry can hold. Assumes nothing.
 use Rattle.std.proofs.Common.{◌≡◌, ℕ, ◌<◌, ◌≤◌, List, length, Some, None, sym, ap, ◌∙◌, subst, arith}
-use Rattle.std.specs.List.{AllByRecursion as All}
+use Rattle.std.specs.List.{AllByRecursion}
 use Rattle.std.proofs.ByRecursion.{All-weaker}
 use Rattle.std.proofs.lemmas.List.{length-map}
 use Rattle.model.specs.Content.{Element, Request}
@@ -37,7 +37,7 @@ few_rows q tree point limits (nothing e) = subst (λ p. length (spots p tree) �
 
 -- ITS SINGLE REQUESTS ARE SPELLED AS THEY ARE
 
-plain_whole : (es : List Element) → All Plain es → bytes_for es ≡ single_bytes es
+plain_whole : (es : List Element) → AllByRecursion Plain es → bytes_for es ≡ single_bytes es
 plain_whole es h =
     ap single_bytes (elements_whole es (All-weaker Plain Untagged (λ e p. p.no_tag) es h) (All-weaker Plain ElementFits (λ e p. p.fits) es h))
 

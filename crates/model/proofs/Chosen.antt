@@ -2,7 +2,7 @@
 use Rattle.std.proofs.Common.{◌≡◌, ℕ, zero, suc, ◌+◌, ◌<◌, ◌≤◌, true, false, eqb, ◌⊎◌, List, [], ◌∷◌, map, length, sym, refl, ap, ◌∙◌, subst, inl, inr, arith}
 use mathlib.Core.List.Memᴰ
 use mathlib.Core.List.{Memᴰ}
-use Rattle.std.specs.List.{AllByRecursion as All}
+use Rattle.std.specs.List.{AllByRecursion}
 use Rattle.std.proofs.lemmas.Bool.{eqb-true, eqb-false, eq-eqb, cases_Bool}
 use Rattle.model.specs.Order.{Sorted}
 use Rattle.model.specs.Content.{Element, Request}
@@ -21,7 +21,7 @@ use Rattle.model.proofs.Taken.{taken_is, positions, in_positions, position_of, L
 abbrev pub numbered_pair : Listed → ℕ × Element
 numbered_pair l = (l.number, l.element)
 
-module _ (q : Request) (ls : List Listed) (right : All (Right q) ls) where
+module _ (q : Request) (ls : List Listed) (right : AllByRecursion (Right q) ls) where
   abbrev ns : List ℕ
   ns = numbers ls
 

@@ -3,7 +3,7 @@ use Rattle.std.proofs.Common.{◌≡◌, ℕ, suc, ◌+◌, ◌≤◌, Bool, tru
 use mathlib.Core.List.Memᴰ
 use mathlib.Core.List.{Memᴰ}
 use lib.ListN.{length-map}
-use Rattle.std.specs.List.{AllByRecursion as All}
+use Rattle.std.specs.List.{AllByRecursion}
 use Rattle.std.proofs.ByRecursion.{All-map, All-weaker}
 use Rattle.std.proofs.lemmas.Bool.{both_ways, not-true, eqb-true}
 use Rattle.model.specs.Order.{Sorted}
@@ -28,9 +28,9 @@ Fits l = ElementFits l.element
 
 abbrev pub FitListing : Listing → Type 0
 FitListing (unknown p) = Unit {0}
-FitListing (lists ls) = All Fits ls × (1 ≤ length ls) × (length ls ≤ 16)
+FitListing (lists ls) = AllByRecursion Fits ls × (1 ≤ length ls) × (length ls ≤ 16)
 
-numbers_fit : (i : ℕ) (es : List Element) → All ElementFits es → All Fits (numbers_from i es)
+numbers_fit : (i : ℕ) (es : List Element) → AllByRecursion ElementFits es → AllByRecursion Fits (numbers_from i es)
 numbers_fit i [] h = tt
 numbers_fit i (e ∷ es) h = (h.0, numbers_fit (i + 1) es h.1)
 
@@ -46,13 +46,13 @@ found_step : (l : Listed) (o : Option Listed) (b : Bool) → Fits l → FoundFit
 found_step l o true h f = h
 found_step l o false h f = f
 
-found_fits : (p : Listed → Bool) (ls : List Listed) → All Fits ls → FoundFits (found p ls)
+found_fits : (p : Listed → Bool) (ls : List Listed) → AllByRecursion Fits ls → FoundFits (found p ls)
 found_fits p [] h = tt
 found_fits p (l ∷ ls) h = found_step l (found p ls) (p l) h.0 (found_fits p ls h.1)
 
 abbrev AsLong : ℕ → Listing → Type 0
 AsLong n (unknown p) = Unit {0}
-AsLong n (lists ls) = All Fits ls × (length ls ≡ n)
+AsLong n (lists ls) = AllByRecursion Fits ls × (length ls ≡ n)
 
 before_fits : (l : Listed) (n : ℕ) (k : Listing) → Fits l → AsLong n k → AsLong (suc n) (before l k)
 before_fits l n (lists ls) h a = ((h, a.0), ap suc a.1)
@@ -62,7 +62,7 @@ listing_step : (n p : ℕ) (k : Listing) (o : Option Listed) → FoundFits o →
 listing_step n p k None f a = tt
 listing_step n p k (Some l) f a = before_fits l n k f a
 
-listing_fits : (es : List Listed) → All Fits es → (p : ℕ) (ts : List ℕ) → AsLong (length ts) (listing es p ts)
+listing_fits : (es : List Listed) → AllByRecursion Fits es → (p : ℕ) (ts : List ℕ) → AsLong (length ts) (listing es p ts)
 listing_fits es h p [] = (tt, refl)
 listing_fits es h p (t ∷ ts) =
     listing_step (length ts) p (listing es (p + 1) ts) (found (carries t) es) (found_fits (carries t) es h) (listing_fits es h (p + 1) ts)
@@ -71,13 +71,13 @@ as_long_fits : (n : ℕ) (k : Listing) → (1 ≤ n) × (n ≤ 16) → AsLong n 
 as_long_fits n (lists ls) h a = (a.0, omega arith, omega arith)
 as_long_fits n (unknown p) h a = tt
 
-pub listings_fit : (q : Request) → RequestFits q → All FitListing (listings q)
+pub listings_fit : (q : Request) → RequestFits q → AllByRecursion FitListing (listings q)
 listings_fit q f = on q.references f.references
   where
-    listed : All Fits (all_listed q)
+    listed : AllByRecursion Fits (all_listed q)
     listed = numbers_fit 0 q.elements f.elements
 
-    on : (o : Option (List (List ℕ))) → WhenSome ReferencesFit o → All FitListing (listings_by (all_listed q) o)
+    on : (o : Option (List (List ℕ))) → WhenSome ReferencesFit o → AllByRecursion FitListing (listings_by (all_listed q) o)
     on None h = let l = length_numbers 0 q.elements in let b = f.as_many in ((listed, omega arith, omega arith), tt)
     on (Some refs) h = All-map FitListing (listing (all_listed q) 0) refs (
         All-weaker ReferenceFits (λ ts. FitListing (listing (all_listed q) 0 ts))
@@ -189,7 +189,7 @@ module _ (f : Listed → Element) (same : (l : Listed) → (f l).category ≡ ca
 -- THE SINGLE REQUEST OF EACH ROW
 
 pub record Proper (tree : Tree) (es : List Element) : Type 0 where
-  pub plain : All Plain es
+  pub plain : AllByRecursion Plain es
   pub as_many : (1 ≤ length es) × (length es ≤ 16)
   pub distinct : Sorted Apart (numbers_from 0 es)
   pub as_it_stands : Whole tree (resource (numbers_from 0 es))
@@ -203,7 +203,7 @@ module _ (q : Request) (tree : Tree) (limits : Limits tree) (fits : RequestFits 
     listed_fit : FitListing (lists ls)
     listed_fit = all_in FitListing (listings q) (listings_fit q fits) (lists ls) (at_mem at)
 
-    chosen_fit : All Fits (chosen ls ps)
+    chosen_fit : AllByRecursion Fits (chosen ls ps)
     chosen_fit = all_from Fits (chosen ls ps) (λ l m. all_in Fits ls listed_fit.0 l (mem_picked (categories [] ls) ps [] ls l m))
 
     as_many_chosen : (f : Listed → Element) → (1 ≤ length (map f (chosen ls ps))) × (length (map f (chosen ls ps)) ≤ 16)

@@ -2,7 +2,7 @@
 use Rattle.std.proofs.Common.{◌≡◌, ℕ, zero, suc, ◌+◌, ◌<◌, ◌≤◌, Bool, true, false, cond, not, ◌&&◌, ◌||◌, ◌⊎◌, List, [], ◌∷◌, ◌++◌, map, length, take, Some, None, Option, sym, refl, ap, ◌∙◌, subst, ap₂, inl, inr, ⊎_elim, le_of_suc-le-suc, arith}
 use mathlib.Core.List.Memᴰ
 use mathlib.Core.List.{Memᴰ}
-use Rattle.std.specs.List.{flat_map, AllByRecursion as All}
+use Rattle.std.specs.List.{flat_map, AllByRecursion}
 use Rattle.std.proofs.lemmas.List.{map-append}
 use Rattle.std.proofs.lemmas.Bool.{or_cases, or_left, or_right, both_ways, false≢true}
 use Rattle.model.specs.Order.{Sorted}
@@ -189,15 +189,15 @@ map_map {C} f g (x ∷ xs) = ap (λ (t : List C). f (g x) ∷ t) (map_map f g xs
 -- WHAT HOLDS OF EACH
 
 module _ {A : Type 0} (P : A → Type 0) where
-  pub all_from : (xs : List A) → ((x : A) → Memᴰ x xs → P x) → All P xs
+  pub all_from : (xs : List A) → ((x : A) → Memᴰ x xs → P x) → AllByRecursion P xs
   all_from [] f = tt
   all_from (x ∷ xs) f = (f x (Memᴰ.head refl), all_from xs (λ y m. f y (Memᴰ.tail m)))
 
-  pub all_in : (xs : List A) → All P xs → (x : A) → Memᴰ x xs → P x
+  pub all_in : (xs : List A) → AllByRecursion P xs → (x : A) → Memᴰ x xs → P x
   all_in [] h x m = absurd (Memᴰ.not-nil m)
   all_in (y ∷ ys) h x m = ⊎_elim (λ e. subst P (sym e) h.0) (all_in ys h.1 x) (Memᴰ.cases_cons m)
 
-  pub all_keep : (p : A → Bool) (xs : List A) → All P xs → All P (keep p xs)
+  pub all_keep : (p : A → Bool) (xs : List A) → AllByRecursion P xs → AllByRecursion P (keep p xs)
   all_keep p xs h = all_from (keep p xs) (λ x m. all_in xs h x (of_keep p x xs m).0)
 
 -- THE FIRST THAT PASSES

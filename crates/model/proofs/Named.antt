@@ -2,7 +2,7 @@
 use Rattle.std.proofs.Common.{◌≡◌, ℕ, zero, suc, ◌+◌, ◌<◌, true, ◌↔◌, List, [], ◌∷◌, map, length, Some, None, Option, sym, refl, ap, subst, ⊎_elim, le_of_suc-le-suc, not-suc-le-zero, arith}
 use mathlib.Core.List.Memᴰ
 use mathlib.Core.List.{Memᴰ}
-use Rattle.std.specs.List.{AllByRecursion as All}
+use Rattle.std.specs.List.{AllByRecursion}
 use Rattle.std.proofs.lemmas.Bool.{eqb-true, eq-eqb, cases_lt, false≢true}
 use Rattle.model.specs.Order.{Sorted}
 use Rattle.model.specs.Content.{Element, Request, is_tag}
@@ -89,7 +89,7 @@ module _ (q : Request) where
     pub others_name : (i v : ℕ) → i < position → At i v ts → (n : ℕ) × Names q v n
 
   abbrev ListingMeans : ℕ → List ℕ → Listing → Type 0
-  ListingMeans p ts (lists ls) = Pairwise (Names q) ts (numbers ls) × All (Right q) ls
+  ListingMeans p ts (lists ls) = Pairwise (Names q) ts (numbers ls) × AllByRecursion (Right q) ls
   ListingMeans p ts (unknown u) = Unnamed p ts u
 
   listing_on : (p t : ℕ) (ts : List ℕ) (l : Listed) → Right q l → Names q t l.number → (k : Listing) → ListingMeans (p + 1) ts k
@@ -125,7 +125,7 @@ module _ (q : Request) where
       (listing_means (p + 1) ts)
 
   abbrev pub ReferenceMeans : ℕ → Listing → Type 0
-  ReferenceMeans r (lists ls) = Lists q r (numbers ls) × All (Right q) ls
+  ReferenceMeans r (lists ls) = Lists q r (numbers ls) × AllByRecursion (Right q) ls
   ReferenceMeans r (unknown p) = IsUnknownTag q r p
 
   by_tags_means : (refs : List (List ℕ)) (r : ℕ) (ts : List ℕ) → q.references ≡ Some refs → At r ts refs → (k : Listing) → ListingMeans 0 ts k
@@ -159,7 +159,7 @@ module _ (q : Request) where
 
   module _ (apart : Sorted OtherTag q.elements) where
     abbrev ListedAs : ℕ → List ℕ → Type 0
-    ListedAs r ns = (ls : List Listed) × At r (lists ls) (listings q) × (numbers ls ≡ ns) × All (Right q) ls
+    ListedAs r ns = (ls : List Listed) × At r (lists ls) (listings q) × (numbers ls ≡ ns) × AllByRecursion (Right q) ls
 
     lists_by : (refs : List (List ℕ)) (r : ℕ) (ts ns : List ℕ) → q.references ≡ Some refs → At r ts refs → Pairwise (Names q) ts ns
         → (k : Listing) → listing (all_listed q) 0 ts ≡ k → ListingMeans 0 ts k → ListedAs r ns

@@ -1,6 +1,6 @@
 -- Rule policies and grants are accepted exactly where they are the spelling of a well-formed content. Assumes nothing.
 use Rattle.std.proofs.Common.{◌≡◌, ℕ, zero, suc, ◌≤◌, Bool, true, false, cond, eqb, ◌⊎◌, List, [], ◌∷◌, ◌++◌, length, Option, sym, refl, ap, ◌∙◌, subst, ap₂, inl, inr, append-nil, arith}
-use Rattle.std.specs.List.{AllByRecursion as All}
+use Rattle.std.specs.List.{AllByRecursion}
 use Rattle.std.proofs.ByRecursion.{All-push}
 use Rattle.std.proofs.lemmas.Bool.{eqb-true, eqb-false}
 use Rattle.model.specs.declared.decision.Decision.{Decision}
@@ -66,13 +66,13 @@ reads_condition c f =
     (ap (λ (b : Bool). record { required = b; category = c.category; id = c.id; type = c.type; issuer = c.issuer; value = c.value }) k.third))))))))
 
 -- the conditions of a rule; their list stands exactly where there is one
-gives_conditions : Gives condition_list (λ w ys. All ConditionFits ys × Between 1 4 (length ys) × (w ≡ spell_list spell_condition ys))
-gives_conditions = gives_list one_condition spell_condition (All ConditionFits)
-    (λ i xs g. gives_weaker ConditionRead (λ w x. All ConditionFits (xs ++ x ∷ []) × (w ≡ spell_condition x)) (λ w x h. (All-push ConditionFits xs x g h.0, h.1)) (gives_within ConditionRead kind.Condition i condition_fields gives_condition))
+gives_conditions : Gives condition_list (λ w ys. AllByRecursion ConditionFits ys × Between 1 4 (length ys) × (w ≡ spell_list spell_condition ys))
+gives_conditions = gives_list one_condition spell_condition (AllByRecursion ConditionFits)
+    (λ i xs g. gives_weaker ConditionRead (λ w x. AllByRecursion ConditionFits (xs ++ x ∷ []) × (w ≡ spell_condition x)) (λ w x h. (All-push ConditionFits xs x g h.0, h.1)) (gives_within ConditionRead kind.Condition i condition_fields gives_condition))
     1 4 tt
 
-reads_conditions : (xs : List Condition) → Between 1 4 (length xs) → All ConditionFits xs → Reads condition_list (spell_list spell_condition xs) xs
-reads_conditions xs h g = reads_list one_condition spell_condition (All ConditionFits) (λ i ys y zs k. reads_within kind.Condition i condition_fields (spell_condition y) y (reads_condition y (all_at ConditionFits ys y zs k))) 1 4 xs h g
+reads_conditions : (xs : List Condition) → Between 1 4 (length xs) → AllByRecursion ConditionFits xs → Reads condition_list (spell_list spell_condition xs) xs
+reads_conditions xs h g = reads_list one_condition spell_condition (AllByRecursion ConditionFits) (λ i ys y zs k. reads_within kind.Condition i condition_fields (spell_condition y) y (reads_condition y (all_at ConditionFits ys y zs k))) 1 4 xs h g
 
 -- RULES
 
@@ -146,13 +146,13 @@ reads_rule r f =
 
 gives_policy : Gives policy_fields (λ w rules. PolicySpelling w rules)
 gives_policy =
-    gives_weaker (λ w ys. All RuleFits ys × Between 1 64 (length ys) × (w ≡ spell_policy ys)) PolicySpelling (λ w ys h. (record { as_many = h.1; each = h.0 }, h.2))
-    (gives_list one_rule spell_rule (All RuleFits)
-    (λ i xs g. gives_weaker RuleRead (λ w x. All RuleFits (xs ++ x ∷ []) × (w ≡ spell_rule x)) (λ w x h. (All-push RuleFits xs x g h.0, h.1)) (gives_within RuleRead kind.Rule i rule_fields gives_rule))
+    gives_weaker (λ w ys. AllByRecursion RuleFits ys × Between 1 64 (length ys) × (w ≡ spell_policy ys)) PolicySpelling (λ w ys h. (record { as_many = h.1; each = h.0 }, h.2))
+    (gives_list one_rule spell_rule (AllByRecursion RuleFits)
+    (λ i xs g. gives_weaker RuleRead (λ w x. AllByRecursion RuleFits (xs ++ x ∷ []) × (w ≡ spell_rule x)) (λ w x h. (All-push RuleFits xs x g h.0, h.1)) (gives_within RuleRead kind.Rule i rule_fields gives_rule))
     1 64 tt)
 
 reads_policy : (rules : List Rule) → PolicyFits rules → Reads policy_fields (spell_policy rules) rules
-reads_policy rules f = reads_list one_rule spell_rule (All RuleFits) (λ i ys y zs k. reads_within kind.Rule i rule_fields (spell_rule y) y (reads_rule y (all_at RuleFits ys y zs k))) 1 64 rules f.as_many f.each
+reads_policy rules f = reads_list one_rule spell_rule (AllByRecursion RuleFits) (λ i ys y zs k. reads_within kind.Rule i rule_fields (spell_rule y) y (reads_rule y (all_at RuleFits ys y zs k))) 1 64 rules f.as_many f.each
 
 -- GRANTS
 
@@ -180,13 +180,13 @@ reads_line l f =
     (reads_bind _ a r l.action (reads_text 1 64 l.action f.action)
     (reads_map (λ t. record { subject = l.subject; action = l.action; resource = t }) r l.resource (reads_text 1 64 l.resource f.resource)))
 
-gives_grants : Gives grants_fields (λ w lines. All LineFits lines × (length lines ≤ 1024) × Spelled spell_grants w lines)
-gives_grants = gives_many one_line spell_line (All LineFits)
-    (λ i xs g. gives_weaker LineRead (λ w l. All LineFits (xs ++ l ∷ []) × Spelled spell_line w l) (λ w l h. (All-push LineFits xs l g h.0, λ _. h.1)) (gives_within LineRead kind.Line i line_fields gives_line))
+gives_grants : Gives grants_fields (λ w lines. AllByRecursion LineFits lines × (length lines ≤ 1024) × Spelled spell_grants w lines)
+gives_grants = gives_many one_line spell_line (AllByRecursion LineFits)
+    (λ i xs g. gives_weaker LineRead (λ w l. AllByRecursion LineFits (xs ++ l ∷ []) × Spelled spell_line w l) (λ w l h. (All-push LineFits xs l g h.0, λ _. h.1)) (gives_within LineRead kind.Line i line_fields gives_line))
     1024 tt
 
 reads_grants : (lines : List Line) → GrantsFit lines → Reads grants_fields (spell_grants lines) lines
-reads_grants lines f = reads_many one_line spell_line (All LineFits) (λ i xs l zs k. reads_within kind.Line i line_fields (spell_line l) l (reads_line l (all_at LineFits xs l zs k))) 1024 lines f.few f.each
+reads_grants lines f = reads_many one_line spell_line (AllByRecursion LineFits) (λ i xs l zs k. reads_within kind.Line i line_fields (spell_line l) l (reads_line l (all_at LineFits xs l zs k))) 1024 lines f.few f.each
 
 -- WHOLE FILES
 
@@ -194,7 +194,7 @@ pub points_accepted_exactly : PointsAcceptedExactly
 points_accepted_exactly = (
   λ bytes rules. (accepted PolicySpelling policy_fields gives_policy bytes rules, λ s. ap read_policy s.1 ∙ back policy_fields (spell_policy rules) rules (reads_policy rules s.0)),
   λ bytes lines b. (
-    λ e. let h = accepted (λ w ls. All LineFits ls × (length ls ≤ 1024) × Spelled spell_grants w ls) grants_fields gives_grants bytes lines e in (record { few = h.1; each = h.0 }, h.2 b),
+    λ e. let h = accepted (λ w ls. AllByRecursion LineFits ls × (length ls ≤ 1024) × Spelled spell_grants w ls) grants_fields gives_grants bytes lines e in (record { few = h.1; each = h.0 }, h.2 b),
     λ s. ap read_grants s.1 ∙ back grants_fields (spell_grants lines) lines (reads_grants lines s.0),
   ),
 )

@@ -1,6 +1,6 @@
 -- The decision points that files give answer as every decision point does. Assumes nothing.
 use Rattle.std.proofs.Common.{◌≡◌, ℕ, ◌+◌, ◌≤◌, Bool, true, false, cond, ◌||◌, eqb, List, [], ◌∷◌, ◌++◌, map, length, get_or, Some, None, refl, ap, arith}
-use Rattle.std.specs.List.{AllByRecursion as All}
+use Rattle.std.specs.List.{AllByRecursion}
 use Rattle.std.proofs.ByRecursion.{All-push}
 use Rattle.model.specs.declared.decision.Decision.{Decision}
 use Rattle.model.specs.declared.decision.Decision.TheVariants.{Permit, Deny, Indeterminate, NotApplicable}
@@ -59,7 +59,7 @@ module _ (es : List Element) where
   rule_fits r n d l Truth.unknown later h = undecided_fits status.MissingAttribute n (not_ok status.MissingAttribute (omega arith)) l
   rule_fits r n d l Truth.unmet later h = h
 
-  rules_fit : (n : ℕ) (rs : List Rule) → All Decides rs → n + length rs ≤ 65536 → AnswerFits (first_rule es n rs)
+  rules_fit : (n : ℕ) (rs : List Rule) → AllByRecursion Decides rs → n + length rs ≤ 65536 → AnswerFits (first_rule es n rs)
   rules_fit n [] h l = decided_fits NotApplicable 0 not_applicable_decides (omega arith)
   rules_fit n (r ∷ rs) h l =
       rule_fits r n h.0 (omega arith) (all_of (map (truth es) r.conditions)) (first_rule es (n + 1) rs)
@@ -101,15 +101,15 @@ keeps_rule =
     gives_give (λ w r. Decides r) (record { effect = effect_of effect; conditions = conditions }) (effect_decides effect))))
 
 abbrev FewRules : List Rule → Type 0
-FewRules rs = All Decides rs × (length rs ≤ 64)
+FewRules rs = AllByRecursion Decides rs × (length rs ≤ 64)
 
 keeps_policy : Keeps FewRules policy_fields
 keeps_policy =
     keeps_bind (Between 1 64) FewRules (keeps_code 1 64) (λ n h.
-    gives_weaker (λ w rs. AsMany (All Decides) one_rule n rs) (λ w rs. FewRules rs) (λ w rs k. (k.0, omega (arith, h, k.1)))
-    (keeps_many (All Decides) one_rule
-    (λ i rs d. gives_within (λ w r. All Decides (rs ++ r ∷ [])) kind.Rule i rule_fields
-    (gives_weaker (λ w r. Decides r) (λ w r. All Decides (rs ++ r ∷ [])) (λ w r k. All-push Decides rs r d k) keeps_rule)) tt n))
+    gives_weaker (λ w rs. AsMany (AllByRecursion Decides) one_rule n rs) (λ w rs. FewRules rs) (λ w rs k. (k.0, omega (arith, h, k.1)))
+    (keeps_many (AllByRecursion Decides) one_rule
+    (λ i rs d. gives_within (λ w r. AllByRecursion Decides (rs ++ r ∷ [])) kind.Rule i rule_fields
+    (gives_weaker (λ w r. Decides r) (λ w r. AllByRecursion Decides (rs ++ r ∷ [])) (λ w r k. All-push Decides rs r d k) keeps_rule)) tt n))
 
 policy_fits : (rules : List Rule) → FewRules rules → PointFits (policy_point rules)
 policy_fits rules h es = rules_fit es 0 rules h.0 (omega (arith, h.1))

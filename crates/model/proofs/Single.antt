@@ -2,7 +2,7 @@
 use Rattle.std.proofs.Common.{◌≡◌, ℕ, ◌+◌, Bool, true, false, cond, eqb, List, [], ◌∷◌, ◌++◌, map, length, Some, None, Ok, Option, sym, refl, ap, ◌∙◌, ap₂, ⊎_elim}
 use mathlib.Core.List.Memᴰ
 use mathlib.Core.List.{Memᴰ}
-use Rattle.std.specs.List.{flat_map, AllByRecursion as All}
+use Rattle.std.specs.List.{flat_map, AllByRecursion}
 use Rattle.std.proofs.ByRecursion.{All-weaker}
 use Rattle.std.proofs.lemmas.Bool.{or_from, eqb-true, eq-eqb, ne_eqb, cond-true, cond-false}
 use Rattle.model.specs.Order.{Sorted}
@@ -27,12 +27,12 @@ pub record Plain (e : Element) : Type 0 where
   pub fits : ElementFits e
   pub no_tag : e.tag ≡ None
 
-pub untagged_apart : (es : List Element) → All Plain es → Sorted OtherTag es
+pub untagged_apart : (es : List Element) → AllByRecursion Plain es → Sorted OtherTag es
 untagged_apart [] h = tt
 untagged_apart (e ∷ es) h = (λ f m t p q. none_some e.tag t h.0.no_tag p, untagged_apart es h.1)
 
 -- such elements, spelled, are read back
-pub reads_back : (es : List Element) → All Plain es → Between 1 16 (length es) → read_request (single_bytes es) ≡ Ok (request_of es)
+pub reads_back : (es : List Element) → AllByRecursion Plain es → Between 1 16 (length es) → read_request (single_bytes es) ≡ Ok (request_of es)
 reads_back es h n = (accepted_exactly (single_bytes es) (request_of es)).1 (
   record { as_many = n; elements = All-weaker Plain ElementFits (λ e p. p.fits) es h; tags = untagged_apart es h; references = tt },
   refl,
@@ -132,6 +132,6 @@ module _ (tree : Tree) where
 bare_itself : (e : Element) → e.tag ≡ None → bare e ≡ e
 bare_itself e t = ap (λ (o : Option ℕ). record { category = e.category; tag = o; attributes = e.attributes }) (sym t)
 
-pub same_elements : (i : ℕ) (es : List Element) → All Plain es → map put_bare (numbers_from i es) ≡ es
+pub same_elements : (i : ℕ) (es : List Element) → AllByRecursion Plain es → map put_bare (numbers_from i es) ≡ es
 same_elements i [] h = refl
 same_elements i (e ∷ es) h = ap₂ (λ (x : Element) (y : List Element). x ∷ y) (bare_itself e h.0.no_tag) (same_elements (i + 1) es h.1)

@@ -3,7 +3,7 @@ use Rattle.std.proofs.Common.{◌≡◌, ℕ, zero, suc, ◌+◌, ◌≤◌, Boo
 use mathlib.Core.List as list
 use mathlib.Core.List.Memᴰ
 use mathlib.Core.List.{Memᴰ}
-use Rattle.std.specs.List.{AllByRecursion as All}
+use Rattle.std.specs.List.{AllByRecursion}
 use Rattle.std.proofs.ByRecursion.{All-push}
 use Rattle.std.proofs.lemmas.Bool.{eqb-true, eqb-false, eq-eqb, ne_eqb, or_parts, or_from, both_ways}
 use Rattle.model.specs.declared.item.Kind.TheVariants as kind
@@ -152,13 +152,13 @@ reads_attribute a f =
     (ap (λ (b : Bool). record { included = b; id = a.id; type = a.type; issuer = a.issuer; value = a.value }) k.third)))))))
 
 -- the attributes of an element; their list stands exactly where there is one
-gives_attribute_list : Gives attribute_list (λ w ys. All AttributeFits ys × Between 1 8 (length ys) × (w ≡ spell_list spell_attribute ys))
-gives_attribute_list = gives_list one_attribute spell_attribute (All AttributeFits)
-    (λ i xs g. gives_weaker AttributeRead (λ w x. All AttributeFits (xs ++ x ∷ []) × (w ≡ spell_attribute x)) (λ w x h. (All-push AttributeFits xs x g h.0, h.1)) (gives_within AttributeRead kind.Attribute i attribute_fields gives_attribute))
+gives_attribute_list : Gives attribute_list (λ w ys. AllByRecursion AttributeFits ys × Between 1 8 (length ys) × (w ≡ spell_list spell_attribute ys))
+gives_attribute_list = gives_list one_attribute spell_attribute (AllByRecursion AttributeFits)
+    (λ i xs g. gives_weaker AttributeRead (λ w x. AllByRecursion AttributeFits (xs ++ x ∷ []) × (w ≡ spell_attribute x)) (λ w x h. (All-push AttributeFits xs x g h.0, h.1)) (gives_within AttributeRead kind.Attribute i attribute_fields gives_attribute))
     1 8 tt
 
 module _ {X : Type 0} where
-  pub all_at : (P : X → Type 0) (xs : List X) (x : X) (zs : List X) → All P (xs ++ x ∷ zs) → P x
+  pub all_at : (P : X → Type 0) (xs : List X) (x : X) (zs : List X) → AllByRecursion P (xs ++ x ∷ zs) → P x
   all_at P [] x zs h = h.0
   all_at P (y ∷ xs) x zs h = all_at P xs x zs h.1
 
@@ -166,8 +166,8 @@ module _ {X : Type 0} where
   any_length [] h = absurd (omega arith)
   any_length (x ∷ xs) h = refl
 
-reads_attribute_list : (xs : List Attribute) → Between 1 8 (length xs) → All AttributeFits xs → Reads attribute_list (spell_list spell_attribute xs) xs
-reads_attribute_list xs h g = reads_list one_attribute spell_attribute (All AttributeFits) (λ i ys y zs k. reads_within kind.Attribute i attribute_fields (spell_attribute y) y (reads_attribute y (all_at AttributeFits ys y zs k))) 1 8 xs h g
+reads_attribute_list : (xs : List Attribute) → Between 1 8 (length xs) → AllByRecursion AttributeFits xs → Reads attribute_list (spell_list spell_attribute xs) xs
+reads_attribute_list xs h g = reads_list one_attribute spell_attribute (AllByRecursion AttributeFits) (λ i ys y zs k. reads_within kind.Attribute i attribute_fields (spell_attribute y) y (reads_attribute y (all_at AttributeFits ys y zs k))) 1 8 xs h g
 
 -- a list that stands exactly where it has an item
 module _ {X : Type 0} (list : Reader (List X)) (Fits : X → Type 0) (spell : X → List ℕ) (high : ℕ) where
@@ -175,20 +175,20 @@ module _ {X : Type 0} (list : Reader (List X)) (Fits : X → Type 0) (spell : X 
   spell_any xs = cond (is_any xs) (spell_list spell xs) []
 
   pub record AnyRead (b : Bool) (w : List ℕ) (xs : List X) : Type 0 where
-    pub fit : All Fits xs
+    pub fit : AllByRecursion Fits xs
     pub few : length xs ≤ high
     pub there : b ≡ is_any xs
     pub spelled : w ≡ spell_any xs
 
-  pub gives_any : Gives list (λ w ys. All Fits ys × Between 1 high (length ys) × (w ≡ spell_list spell ys)) → (b : Bool) → Gives (when b [] list) (AnyRead b)
+  pub gives_any : Gives list (λ w ys. AllByRecursion Fits ys × Between 1 high (length ys) × (w ≡ spell_list spell ys)) → (b : Bool) → Gives (when b [] list) (AnyRead b)
   gives_any g b = gives_when (AnyRead b) b [] list
-      (λ e. gives_weaker (λ w ys. All Fits ys × Between 1 high (length ys) × (w ≡ spell_list spell ys)) (AnyRead b) (λ w xs h.
+      (λ e. gives_weaker (λ w ys. AllByRecursion Fits ys × Between 1 high (length ys) × (w ≡ spell_list spell ys)) (AnyRead b) (λ w xs h.
       let a = any_length xs h.1.0 in
       record { fit = h.0; few = h.1.1; there = e ∙ sym a; spelled = h.2 ∙ ap (λ c. cond c (spell_list spell xs) []) (sym a) }) g)
       (λ e. record { fit = tt; few = omega arith; there = e; spelled = refl })
 
-  pub reads_any : ((xs : List X) → Between 1 high (length xs) → All Fits xs → Reads list (spell_list spell xs) xs)
-      → (b : Bool) (xs : List X) → b ≡ is_any xs → length xs ≤ high → All Fits xs → Reads (when b [] list) (spell_any xs) xs
+  pub reads_any : ((xs : List X) → Between 1 high (length xs) → AllByRecursion Fits xs → Reads list (spell_list spell xs) xs)
+      → (b : Bool) (xs : List X) → b ≡ is_any xs → length xs ≤ high → AllByRecursion Fits xs → Reads (when b [] list) (spell_any xs) xs
   reads_any f b [] e h g = reads_absent b [] list [] e refl
   reads_any f b (x ∷ xs) e h g = reads_there b [] list (spell_list spell (x ∷ xs)) (x ∷ xs) e (f (x ∷ xs) (omega arith, h) g)
 
@@ -201,7 +201,7 @@ spell_attributes = spell_any attribute_list AttributeFits spell_attribute 8
 gives_attributes : (b : Bool) → Gives (when b [] attribute_list) (AttributesRead b)
 gives_attributes = gives_any attribute_list AttributeFits spell_attribute 8 gives_attribute_list
 
-reads_attributes : (b : Bool) (xs : List Attribute) → b ≡ is_any xs → length xs ≤ 8 → All AttributeFits xs → Reads (when b [] attribute_list) (spell_attributes xs) xs
+reads_attributes : (b : Bool) (xs : List Attribute) → b ≡ is_any xs → length xs ≤ 8 → AllByRecursion AttributeFits xs → Reads (when b [] attribute_list) (spell_attributes xs) xs
 reads_attributes = reads_any attribute_list AttributeFits spell_attribute 8 reads_attribute_list
 
 -- TAGS: one that no earlier element carries
@@ -288,7 +288,7 @@ reads_element es e f n =
 
 -- elements that fit, no tag twice
 abbrev GoodElements : List Element → Type 0
-GoodElements es = All ElementFits es × Sorted OtherTag es
+GoodElements es = AllByRecursion ElementFits es × Sorted OtherTag es
 
 module _ {X : Type 0} (R : X → X → Type 0) where
   sorted_push : (xs : List X) (x : X) → Sorted R xs → ((y : X) → Memᴰ y xs → R y x) → Sorted R (xs ++ x ∷ [])
@@ -328,14 +328,14 @@ reads_elements es h g = reads_list one_element spell_element GoodElements
 
 gives_reference : Gives reference_fields (λ w ts. ReferenceFits ts × (w ≡ spell_reference ts))
 gives_reference =
-    gives_weaker (λ w ts. All (Between 1 255) ts × Between 1 16 (length ts) × (w ≡ spell_list spell_code ts)) (λ w ts. ReferenceFits ts × (w ≡ spell_reference ts))
+    gives_weaker (λ w ts. AllByRecursion (Between 1 255) ts × Between 1 16 (length ts) × (w ≡ spell_list spell_code ts)) (λ w ts. ReferenceFits ts × (w ≡ spell_reference ts))
     (λ w ts h. (record { as_many = h.1; each = h.0 }, h.2))
-    (gives_list one_tag spell_code (All (Between 1 255))
-    (λ i ts g. gives_weaker (λ w t. (w ≡ t ∷ []) × Between 1 255 t) (λ w t. All (Between 1 255) (ts ++ t ∷ []) × (w ≡ spell_code t)) (λ w t h. (All-push (Between 1 255) ts t g h.1, h.0)) (gives_code 1 255))
+    (gives_list one_tag spell_code (AllByRecursion (Between 1 255))
+    (λ i ts g. gives_weaker (λ w t. (w ≡ t ∷ []) × Between 1 255 t) (λ w t. AllByRecursion (Between 1 255) (ts ++ t ∷ []) × (w ≡ spell_code t)) (λ w t h. (All-push (Between 1 255) ts t g h.1, h.0)) (gives_code 1 255))
     1 16 tt)
 
 reads_reference : (ts : List ℕ) → ReferenceFits ts → Reads reference_fields (spell_reference ts) ts
-reads_reference ts f = reads_list one_tag spell_code (All (Between 1 255)) (λ i us u vs k. reads_code 1 255 u (all_at (Between 1 255) us u vs k)) 1 16 ts f.as_many f.each
+reads_reference ts f = reads_list one_tag spell_code (AllByRecursion (Between 1 255)) (λ i us u vs k. reads_code 1 255 u (all_at (Between 1 255) us u vs k)) 1 16 ts f.as_many f.each
 
 pub record ReferencesRead (b : Bool) (w : List ℕ) (o : Option (List (List ℕ))) : Type 0 where
   pub fit : WhenSome ReferencesFit o
@@ -344,11 +344,11 @@ pub record ReferencesRead (b : Bool) (w : List ℕ) (o : Option (List (List ℕ)
 
 gives_references : (b : Bool) → Gives (when b None (some reference_list)) (ReferencesRead b)
 gives_references b =
-    let Read : List ℕ → List (List ℕ) → Type 0 = λ w rs. All ReferenceFits rs × Between 1 16 (length rs) × (w ≡ spell_list spell_reference rs) in
+    let Read : List ℕ → List (List ℕ) → Type 0 = λ w rs. AllByRecursion ReferenceFits rs × Between 1 16 (length rs) × (w ≡ spell_list spell_reference rs) in
     gives_when (ReferencesRead b) b None (some reference_list)
     (λ e. gives_some Read (ReferencesRead b) (λ w rs h. record { fit = record { as_many = h.1; each = h.0 }; there = e; spelled = h.2 }) reference_list
-    (gives_list one_reference spell_reference (All ReferenceFits)
-    (λ i rs g. gives_weaker (λ w ts. ReferenceFits ts × (w ≡ spell_reference ts)) (λ w ts. All ReferenceFits (rs ++ ts ∷ []) × (w ≡ spell_reference ts)) (λ w ts h. (All-push ReferenceFits rs ts g h.0, h.1))
+    (gives_list one_reference spell_reference (AllByRecursion ReferenceFits)
+    (λ i rs g. gives_weaker (λ w ts. ReferenceFits ts × (w ≡ spell_reference ts)) (λ w ts. AllByRecursion ReferenceFits (rs ++ ts ∷ []) × (w ≡ spell_reference ts)) (λ w ts h. (All-push ReferenceFits rs ts g h.0, h.1))
     (gives_within (λ w ts. ReferenceFits ts × (w ≡ spell_reference ts)) kind.Reference i reference_fields gives_reference))
     1 16 tt))
     (λ e. record { fit = tt; there = e; spelled = refl })
@@ -358,7 +358,7 @@ reads_references b None e f = reads_absent b None (some reference_list) None e r
 reads_references b (Some rs) e f =
     reads_there b None (some reference_list) (spell_list spell_reference rs) (Some rs) e
     (reads_some reference_list (spell_list spell_reference rs) rs
-    (reads_list one_reference spell_reference (All ReferenceFits)
+    (reads_list one_reference spell_reference (AllByRecursion ReferenceFits)
     (λ i xs ts zs k. reads_within kind.Reference i reference_fields (spell_reference ts) ts (reads_reference ts (all_at ReferenceFits xs ts zs k)))
     1 16 rs f.as_many f.each))
 

@@ -2,7 +2,7 @@
 use Rattle.std.proofs.Common.{◌≡◌, ℕ, zero, suc, ◌+◌, ◌*◌, ◌/◌, ◌%◌, ◌<◌, ◌≤◌, Bool, true, false, cond, ◌&&◌, eqb, leb, List, [], ◌∷◌, ◌++◌, length, Ok, sym, refl, ap, ◌∙◌, subst, ap₂, ⊎_elim, append_assoc, append-nil, arith}
 use mathlib.Core.List.Memᴰ
 use mathlib.Core.List.{Memᴰ}
-use Rattle.std.specs.List.{flat_map, AllByRecursion as All}
+use Rattle.std.specs.List.{flat_map, AllByRecursion}
 use Rattle.std.proofs.ByRecursion.{All-push}
 use Rattle.std.proofs.lemmas.Bool.{and_parts, and_from, eqb-true, eq-eqb, leb-true, leb-false, le-leb, lt-leb, or_parts, or_from, both_ways, cond-true, false≢true}
 use Rattle.model.specs.declared.item.Kind.TheVariants as kind
@@ -141,7 +141,7 @@ module _ (wrong : List ℕ → Bool) where
   One t = Between 1 64 (length t) × (wrong t ≡ false)
 
   abbrev GoodNames : List (List ℕ) → Type 0
-  GoodNames names = All One names × Sorted Unlike names
+  GoodNames names = AllByRecursion One names × Sorted Unlike names
 
   one_more : (xs : List (List ℕ)) (t : List ℕ) → GoodNames xs → One t → among xs t ≡ false → GoodNames (xs ++ t ∷ [])
   one_more xs t g o a = (
@@ -160,7 +160,7 @@ module _ (wrong : List ℕ → Bool) where
   gives_names : Gives (name_list wrong) (λ w names. GoodNames names × (length names ≤ 1024) × Spelled (spell_many spell_text) w names)
   gives_names = gives_many (one_name wrong) spell_text GoodNames gives_name 1024 (tt, tt)
 
-  good_here : (xs : List (List ℕ)) (t : List ℕ) (zs : List (List ℕ)) → All One (xs ++ t ∷ zs) → One t
+  good_here : (xs : List (List ℕ)) (t : List ℕ) (zs : List (List ℕ)) → AllByRecursion One (xs ++ t ∷ zs) → One t
   good_here [] t zs h = h.0
   good_here (x ∷ xs) t zs h = good_here xs t zs h.1
 
@@ -214,18 +214,18 @@ module _ (nodes : ℕ) where
       (subst (λ w. Reads (node_number nodes >>= λ c. give (l.0, c)) w l) (append-nil (spell_wide l.1))
       (reads_bind _ (spell_wide l.1) [] l.1 (reads_node l.1 few h.1) (reads_give (l.0, l.1) l refl)))
 
-  gives_links : Gives (link_list nodes) (λ w links. All Joins links × (length links ≤ 4096) × Spelled (spell_many spell_link) w links)
-  gives_links = gives_many (one_link nodes) spell_link (All Joins)
-      (λ i xs g. gives_weaker LinkRead (λ w l. All Joins (xs ++ l ∷ []) × Spelled spell_link w l) (λ w l h. (All-push Joins xs l g h.0, h.1)) (gives_within LinkRead kind.Link i (link_fields nodes) gives_link))
+  gives_links : Gives (link_list nodes) (λ w links. AllByRecursion Joins links × (length links ≤ 4096) × Spelled (spell_many spell_link) w links)
+  gives_links = gives_many (one_link nodes) spell_link (AllByRecursion Joins)
+      (λ i xs g. gives_weaker LinkRead (λ w l. AllByRecursion Joins (xs ++ l ∷ []) × Spelled spell_link w l) (λ w l h. (All-push Joins xs l g h.0, h.1)) (gives_within LinkRead kind.Link i (link_fields nodes) gives_link))
       4096 tt
 
-  joins_here : (xs : List (ℕ × ℕ)) (l : ℕ × ℕ) (zs : List (ℕ × ℕ)) → All Joins (xs ++ l ∷ zs) → Joins l
+  joins_here : (xs : List (ℕ × ℕ)) (l : ℕ × ℕ) (zs : List (ℕ × ℕ)) → AllByRecursion Joins (xs ++ l ∷ zs) → Joins l
   joins_here [] l zs h = h.0
   joins_here (x ∷ xs) l zs h = joins_here xs l zs h.1
 
   reads_links : nodes ≤ 65536 → (links : List (ℕ × ℕ)) → LinksFit nodes links → Reads (link_list nodes) (spell_many spell_link links) links
   reads_links few links f =
-      reads_many (one_link nodes) spell_link (All Joins) (λ i xs l zs g. reads_within kind.Link i (link_fields nodes) (spell_link l) l (reads_link l few (joins_here xs l zs g)))
+      reads_many (one_link nodes) spell_link (AllByRecursion Joins) (λ i xs l zs g. reads_within kind.Link i (link_fields nodes) (spell_link l) l (reads_link l few (joins_here xs l zs g)))
       4096 links f.few f.each
 
 -- WHOLE FILES
@@ -234,7 +234,7 @@ linked_given : Gives linked_tree_fields (λ w t. Bytes w → LinkedSpelling w t)
 linked_given =
     let S : List ℕ → Tree → Type 0 = λ w t. Bytes w → LinkedSpelling w t in
     gives_bind (λ w names. GoodNames any_name names × (length names ≤ 1024) × Spelled (spell_many spell_text) w names) S (gives_names any_name) (λ names w h.
-    gives_bind (λ v links. All (Joins (length names)) links × (length links ≤ 4096) × Spelled (spell_many spell_link) v links) (λ v t. S (w ++ v) t) (gives_links (length names)) (λ links v k.
+    gives_bind (λ v links. AllByRecursion (Joins (length names)) links × (length links ≤ 4096) × Spelled (spell_many spell_link) v links) (λ v t. S (w ++ v) t) (gives_links (length names)) (λ links v k.
     gives_give (λ u t. S (w ++ (v ++ u)) t) (linked_tree names links) (λ b. record {
       names = names;
       links = links;

@@ -2,7 +2,7 @@
 use Rattle.std.proofs.Common.{◌≡◌, ℕ, ◌<◌, ◌≤◌, Bool, true, false, ◌&&◌, eqb, ltb, leb, List, [], ◌∷◌, ◌++◌, length, get_or, sym, subst, inl, inr, ⊎_elim, arith}
 use mathlib.Core.List.Memᴰ
 use mathlib.Core.List.{Memᴰ}
-use Rattle.std.specs.List.{AllByRecursion as All}
+use Rattle.std.specs.List.{AllByRecursion}
 use Rattle.std.proofs.ByRecursion.{All-push, All-get_or}
 use Rattle.std.proofs.lemmas.Bool.{or_cases, or_parts, and_parts, eqb-true, cases_lt, leb-false, ltb-true, false≢true}
 use Rattle.model.specs.Layout.{unless, text, wide}
@@ -27,7 +27,7 @@ abbrev Unlike : List ℕ → List ℕ → Type 0
 Unlike x y = Same x y → ⊥
 
 abbrev Names : List (List ℕ) → Type 0
-Names names = All Sized names × Sorted Unlike names
+Names names = AllByRecursion Sized names × Sorted Unlike names
 
 not_among : (names : List (List ℕ)) (t : List ℕ) → among names t ≡ false → (x : List ℕ) → Memᴰ x names → Unlike x t
 not_among [] t e x m q = absurd (Memᴰ.not-nil m)
@@ -98,18 +98,18 @@ keeps_link n =
     keeps_bind (λ b. b < n) (Ends n) (keeps_node n) (λ b k.
     gives_give (λ w l. Ends n l) (a, b) (h, k)))
 
-keeps_one_link : (n i : ℕ) (earlier : List (ℕ × ℕ)) → All (Ends n) earlier → Keeps (λ l. All (Ends n) (earlier ++ l ∷ [])) (one_link n i earlier)
+keeps_one_link : (n i : ℕ) (earlier : List (ℕ × ℕ)) → AllByRecursion (Ends n) earlier → Keeps (λ l. AllByRecursion (Ends n) (earlier ++ l ∷ [])) (one_link n i earlier)
 keeps_one_link n i earlier h =
-    gives_within (λ w l. All (Ends n) (earlier ++ l ∷ [])) kind.Link i (link_fields n)
-    (gives_weaker (λ w l. Ends n l) (λ w l. All (Ends n) (earlier ++ l ∷ [])) (λ w l k. All-push (Ends n) earlier l h k) (keeps_link n))
+    gives_within (λ w l. AllByRecursion (Ends n) (earlier ++ l ∷ [])) kind.Link i (link_fields n)
+    (gives_weaker (λ w l. Ends n l) (λ w l. AllByRecursion (Ends n) (earlier ++ l ∷ [])) (λ w l k. All-push (Ends n) earlier l h k) (keeps_link n))
 
-keeps_links : (n : ℕ) → Keeps (All (Ends n)) (link_list n)
+keeps_links : (n : ℕ) → Keeps (AllByRecursion (Ends n)) (link_list n)
 keeps_links n =
-    keeps_bind (λ k. k ≤ 4096) (All (Ends n)) (keeps_wide 0 4096) (λ k l.
-    gives_weaker (λ w ls. AsMany (All (Ends n)) (one_link n) k ls) (λ w ls. All (Ends n) ls) (λ w ls h. h.0)
-    (keeps_many (All (Ends n)) (one_link n) (keeps_one_link n) tt k))
+    keeps_bind (λ k. k ≤ 4096) (AllByRecursion (Ends n)) (keeps_wide 0 4096) (λ k l.
+    gives_weaker (λ w ls. AsMany (AllByRecursion (Ends n)) (one_link n) k ls) (λ w ls. AllByRecursion (Ends n) ls) (λ w ls h. h.0)
+    (keeps_many (AllByRecursion (Ends n)) (one_link n) (keeps_one_link n) tt k))
 
-link_ends : (n : ℕ) (links : List (ℕ × ℕ)) → All (Ends n) links → (a b : ℕ) → has_link links a b ≡ true → (a < n) × (b < n)
+link_ends : (n : ℕ) (links : List (ℕ × ℕ)) → AllByRecursion (Ends n) links → (a b : ℕ) → has_link links a b ≡ true → (a < n) × (b < n)
 link_ends n [] h a b e = absurd (false≢true e)
 link_ends n (l ∷ ls) h a b e = ⊎_elim {C = (a < n) × (b < n)}
     (λ q.
@@ -121,7 +121,7 @@ link_ends n (l ∷ ls) h a b e = ⊎_elim {C = (a < n) × (b < n)}
 keeps_linked : Keeps Limits linked_tree_fields
 keeps_linked =
     keeps_bind (FewNames any_name) Limits (keeps_names any_name) (λ names h.
-    keeps_bind (All (Ends (length names))) Limits (keeps_links (length names)) (λ links k.
+    keeps_bind (AllByRecursion (Ends (length names))) Limits (keeps_links (length names)) (λ links k.
     gives_give (λ w t. Limits t) (linked_tree names links) (limits_from names (has_link links) h.0 h.1 (link_ends (length names) links k))))
 
 -- THE PATH TREE

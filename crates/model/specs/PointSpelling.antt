@@ -1,6 +1,6 @@
 -- The rule policies and the grants that files can hold, and the bytes that hold each. Assumes nothing.
 use Rattle.std.specs.Prelude.{◌≡◌, ℕ, ◌+◌, ◌≤◌, Bool, cond, not, ◌⊎◌, ◌↔◌, List, [], ◌∷◌, ◌++◌, length, Ok, ◌==◌}
-use Rattle.std.specs.List.{AllByRecursion as All}
+use Rattle.std.specs.List.{AllByRecursion}
 use Rattle.model.specs.declared.decision.Decision.{Decision}
 use Rattle.model.specs.declared.decision.Decision.TheVariants.{Permit, Deny, Indeterminate, NotApplicable}
 use Rattle.model.specs.Spelling.{Between, WhenSome, flag, is_there, is_any, spell_some, spell_list, spell_text, spell_code}
@@ -19,11 +19,11 @@ pub record ConditionFits (c : Condition) : Type 0 where
 pub record RuleFits (r : Rule) : Type 0 where
   pub effect : (r.effect ≡ Permit) ⊎ (r.effect ≡ Deny)
   pub few : length r.conditions ≤ 4
-  pub conditions : All ConditionFits r.conditions
+  pub conditions : AllByRecursion ConditionFits r.conditions
 
 pub record PolicyFits (rules : List Rule) : Type 0 where
   pub as_many : Between 1 64 (length rules)
-  pub each : All RuleFits rules
+  pub each : AllByRecursion RuleFits rules
 
 pub record LineFits (l : Line) : Type 0 where
   pub subject : Between 1 64 (length l.subject)
@@ -32,7 +32,7 @@ pub record LineFits (l : Line) : Type 0 where
 
 pub record GrantsFit (lines : List Line) : Type 0 where
   pub few : length lines ≤ 1024
-  pub each : All LineFits lines
+  pub each : AllByRecursion LineFits lines
 
 -- THEIR SPELLING
 

@@ -1,6 +1,6 @@
 -- The requests that bytes can hold, and the bytes that hold each. Assumes nothing.
 use Rattle.std.specs.Prelude.{◌≡◌, ℕ, ◌+◌, ◌≤◌, Bool, true, false, cond, not, ◌↔◌, List, [], ◌∷◌, ◌++◌, length, Some, None, Ok, Option, ◌==◌, ◌≢◌}
-use Rattle.std.specs.List.{flat_map, AllByRecursion as All}
+use Rattle.std.specs.List.{flat_map, AllByRecursion}
 use Rattle.model.specs.Order.{Sorted}
 use Rattle.model.specs.Content.{Attribute, Element, Request, read_request}
 
@@ -23,15 +23,15 @@ pub record ElementFits (e : Element) : Type 0 where
   pub category : Between 1 255 e.category
   pub tag : WhenSome (Between 1 255) e.tag
   pub few : length e.attributes ≤ 8
-  pub attributes : All AttributeFits e.attributes
+  pub attributes : AllByRecursion AttributeFits e.attributes
 
 pub record ReferenceFits (tags : List ℕ) : Type 0 where
   pub as_many : Between 1 16 (length tags)
-  pub each : All (Between 1 255) tags
+  pub each : AllByRecursion (Between 1 255) tags
 
 pub record ReferencesFit (references : List (List ℕ)) : Type 0 where
   pub as_many : Between 1 16 (length references)
-  pub each : All ReferenceFits references
+  pub each : AllByRecursion ReferenceFits references
 
 -- no tag is carried by both
 abbrev pub OtherTag : Element → Element → Type 0
@@ -39,7 +39,7 @@ OtherTag e f = (t : ℕ) → e.tag ≡ Some t → f.tag ≢ Some t
 
 pub record RequestFits (q : Request) : Type 0 where
   pub as_many : Between 1 16 (length q.elements)
-  pub elements : All ElementFits q.elements
+  pub elements : AllByRecursion ElementFits q.elements
   pub tags : Sorted OtherTag q.elements
   pub references : WhenSome ReferencesFit q.references
 

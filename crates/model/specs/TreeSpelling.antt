@@ -1,6 +1,6 @@
 -- The trees that files can hold, and the bytes that hold each. Assumes nothing.
 use Rattle.std.specs.Prelude.{◌≡◌, ℕ, ◌/◌, ◌%◌, ◌<◌, ◌≤◌, Bool, true, false, ◌↔◌, List, [], ◌∷◌, ◌++◌, length, Ok}
-use Rattle.std.specs.List.{flat_map, AllByRecursion as All}
+use Rattle.std.specs.List.{flat_map, AllByRecursion}
 use Rattle.model.specs.Order.{Sorted}
 use Rattle.model.specs.Spelling.{Between, spell_text}
 use Rattle.model.specs.Tree.{Tree}
@@ -14,12 +14,12 @@ Unlike s t = s ≡ t → ⊥
 -- names, none of which the file may not have
 pub record NamesFit (wrong : List ℕ → Bool) (names : List (List ℕ)) : Type 0 where
   pub few : length names ≤ 1024
-  pub each : All (λ t. Between 1 64 (length t) × (wrong t ≡ false)) names
+  pub each : AllByRecursion (λ t. Between 1 64 (length t) × (wrong t ≡ false)) names
   pub apart : Sorted Unlike names
 
 pub record LinksFit (nodes : ℕ) (links : List (ℕ × ℕ)) : Type 0 where
   pub few : length links ≤ 4096
-  pub each : All (λ l. (l.0 < nodes) × (l.1 < nodes)) links
+  pub each : AllByRecursion (λ l. (l.0 < nodes) × (l.1 < nodes)) links
 
 -- THEIR SPELLING
 
@@ -36,7 +36,7 @@ spell_link l = spell_wide l.0 ++ spell_wide l.1
 
 -- every number of a file is a byte
 abbrev pub Bytes : List ℕ → Type 0
-Bytes bs = All (λ b. b < 256) bs
+Bytes bs = AllByRecursion (λ b. b < 256) bs
 
 pub record LinkedSpelling (bytes : List ℕ) (tree : Tree) : Type 0 where
   pub names : List (List ℕ)

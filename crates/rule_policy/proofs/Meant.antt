@@ -1,6 +1,6 @@
 -- The computed answer is the one that the relations give, and only that. Assumes nothing.
 use Rattle.std.proofs.Common.{◌≡◌, ℕ, zero, suc, ◌+◌, ◌<◌, Bool, true, false, cond, ◌&&◌, eqb, ◌⊎◌, List, [], ◌∷◌, ◌++◌, map, length, Some, None, Option, sym, refl, ap, ◌∙◌, subst, inl, inr, ⊎_elim, add-zero, zero-add, arith}
-use Rattle.std.specs.List.{AllByRecursion as All}
+use Rattle.std.specs.List.{AllByRecursion}
 use Rattle.std.proofs.lemmas.List.{append-nil, append_assoc, length_push}
 use Rattle.std.proofs.lemmas.Bool.{and_parts, and_from, or_cases, or_left, or_right, cond-true, eqb-true, eq-eqb, both_ways}
 use Rattle.model.specs.declared.decision.Decision.TheVariants as decision
@@ -175,11 +175,11 @@ module _ (es : List Element) (c : Condition) where
 
 -- A RULE
 
-met_not_false : (es : List Element) (cs : List Condition) → All (Met es) cs → One (False es) cs → ⊥
+met_not_false : (es : List Element) (cs : List Condition) → AllByRecursion (Met es) cs → One (False es) cs → ⊥
 met_not_false es [] a o = o
 met_not_false es (c ∷ cs) a o = ⊎_elim (λ f. f.not_met a.0) (λ r. met_not_false es cs a.1 r) o
 
-met_not_open : (es : List Element) (cs : List Condition) → All (Met es) cs → One (Indeterminate es) cs → ⊥
+met_not_open : (es : List Element) (cs : List Condition) → AllByRecursion (Met es) cs → One (Indeterminate es) cs → ⊥
 met_not_open es [] a o = o
 met_not_open es (c ∷ cs) a o = ⊎_elim (λ i. i.none (met_there c es a.0)) (λ r. met_not_open es cs a.1 r) o
 
@@ -191,7 +191,7 @@ module _ (es : List Element) where
   come cs = all_of (map (truth es) cs)
 
   abbrev Come : List Condition → Truth → Type 0
-  Come cs met = All (Met es) cs
+  Come cs met = AllByRecursion (Met es) cs
   Come cs unmet = One (False es) cs
   Come cs unknown = (One (False es) cs → ⊥) × One (Indeterminate es) cs
 

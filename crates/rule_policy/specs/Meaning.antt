@@ -1,6 +1,6 @@
 -- What a rule policy answers, as relations over the content alone: nothing here is shared with the functions that compute it. Assumes nothing.
 use Rattle.std.specs.Prelude.{◌≡◌, ℕ, ◌<◌, true, ◌⊎◌, ◌↔◌, List, [], ◌∷◌, Some, None, Option}
-use Rattle.std.specs.List.{AllByRecursion as All}
+use Rattle.std.specs.List.{AllByRecursion}
 use Rattle.model.specs.declared.decision.Decision.TheVariants as decision
 use Rattle.model.specs.declared.decision.Status.TheVariants as status
 use Rattle.model.specs.Content.{Attribute, Element}
@@ -51,7 +51,7 @@ pub record False (es : List Element) (c : Condition) : Type 0 where
 -- RULES
 
 abbrev pub Applies : List Element → Rule → Type 0
-Applies es r = All (Met es) r.conditions
+Applies es r = AllByRecursion (Met es) r.conditions
 
 -- one condition is false, whatever the others are
 abbrev pub Fails : List Element → Rule → Type 0

@@ -1,7 +1,7 @@
 -- A single request of a request that bytes can hold is one that bytes can hold. Assumes nothing.
 use Rattle.std.proofs.Common.{◌≡◌, ℕ, ◌<◌, ◌≤◌, Bool, eqb, List, [], ◌∷◌, map, length, Some, None, Option, sym, refl, ap, ◌∙◌, ap₂, arith}
 use Rattle.std.specs.Option.{option_map}
-use Rattle.std.specs.List.{AllByRecursion as All}
+use Rattle.std.specs.List.{AllByRecursion}
 use Rattle.std.proofs.ByRecursion.{All-get_or, All-from_get_or}
 use Rattle.std.proofs.lemmas.List.{take_all, length-map}
 use Rattle.std.proofs.lemmas.Bool.{cond_both}
@@ -33,7 +33,7 @@ attribute_whole a h =
     let make : Option (List ℕ) → List ℕ → Attribute = λ i v. record { included = a.included; id = a.id; type = a.type; issuer = i; value = v } in
     ap₂ make (issuer_whole a.issuer h.issuer) (cut_none a.value 64 (omega arith) h.value)
 
-attributes_whole : (xs : List Attribute) → All AttributeFits xs → map cut_attribute xs ≡ xs
+attributes_whole : (xs : List Attribute) → AllByRecursion AttributeFits xs → map cut_attribute xs ≡ xs
 attributes_whole [] h = refl
 attributes_whole (x ∷ xs) h = ap₂ (λ y ys. y ∷ ys) (attribute_whole x h.0) (attributes_whole xs h.1)
 
@@ -45,7 +45,7 @@ element_whole e t h =
 abbrev pub Untagged : Element → Type 0
 Untagged e = e.tag ≡ None
 
-pub elements_whole : (es : List Element) → All Untagged es → All ElementFits es → map cut_element es ≡ es
+pub elements_whole : (es : List Element) → AllByRecursion Untagged es → AllByRecursion ElementFits es → map cut_element es ≡ es
 elements_whole [] t h = refl
 elements_whole (e ∷ es) t h = ap₂ (λ y ys. y ∷ ys) (element_whole e t.0 h.0) (elements_whole es t.1 h.1)
 
@@ -57,14 +57,14 @@ kept_few p (x ∷ xs) =
     let h = kept_few p xs in
     cond_both (p x) (x ∷ keep p xs) (keep p xs) (λ l. length l ≤ length (x ∷ xs)) (λ _. omega arith) (λ _. omega arith)
 
-kept_all : (P : Attribute → Type 0) (p : Attribute → Bool) (xs : List Attribute) → All P xs → All P (keep p xs)
+kept_all : (P : Attribute → Type 0) (p : Attribute → Bool) (xs : List Attribute) → AllByRecursion P xs → AllByRecursion P (keep p xs)
 kept_all P p [] h = tt
-kept_all P p (x ∷ xs) h = cond_both (p x) (x ∷ keep p xs) (keep p xs) (All P) (λ _. (h.0, kept_all P p xs h.1)) (λ _. kept_all P p xs h.1)
+kept_all P p (x ∷ xs) h = cond_both (p x) (x ∷ keep p xs) (keep p xs) (AllByRecursion P) (λ _. (h.0, kept_all P p xs h.1)) (λ _. kept_all P p xs h.1)
 
 named_fits : (t : List ℕ) → length t ≤ 64 → (a : Attribute) → AttributeFits a → AttributeFits (named t a)
 named_fits t l a h = cond_both (has_id 1 a) (with_value t a) a AttributeFits (λ _. record { id = h.id; type = h.type; issuer = h.issuer; value = l }) (λ _. h)
 
-named_all : (t : List ℕ) → length t ≤ 64 → (xs : List Attribute) → All AttributeFits xs → All AttributeFits (map (named t) xs)
+named_all : (t : List ℕ) → length t ≤ 64 → (xs : List Attribute) → AllByRecursion AttributeFits xs → AllByRecursion AttributeFits (map (named t) xs)
 named_all t l [] h = tt
 named_all t l (x ∷ xs) h = (named_fits t l x h.0, named_all t l xs h.1)
 
@@ -90,11 +90,11 @@ put_untagged : (o : Option (List ℕ)) (e : Element) → Untagged (put o e)
 put_untagged None e = refl
 put_untagged (Some t) e = cond_both (eqb e.category 1) (resource_named t e) (bare e) Untagged (λ _. refl) (λ _. refl)
 
-all_put : (P : Element → Type 0) (f : Element → Element) (es : List Element) → ((e : Element) → P (f e)) → All P (map f es)
+all_put : (P : Element → Type 0) (f : Element → Element) (es : List Element) → ((e : Element) → P (f e)) → AllByRecursion P (map f es)
 all_put P f [] h = tt
 all_put P f (e ∷ es) h = (h e, all_put P f es h)
 
-untagged_apart : (es : List Element) → All Untagged es → Sorted OtherTag es
+untagged_apart : (es : List Element) → AllByRecursion Untagged es → Sorted OtherTag es
 untagged_apart [] h = tt
 untagged_apart (e ∷ es) h = ((λ f m t is other. let z : ◌≡◌ {A = ℕ} 0 1 = cc (h.0, is) in omega arith), untagged_apart es h.1)
 
@@ -102,15 +102,15 @@ module _ (s : SingleRequest) (h : Spellable s) where
   abbrev all_elements : List Element
   all_elements = (content_of s.request.now).elements
 
-  picked_fit : (ks : List ℕ) → All (λ k. k < length all_elements) ks → All ElementFits (map (put (name_of s)) (picked all_elements ks))
+  picked_fit : (ks : List ℕ) → AllByRecursion (λ k. k < length all_elements) ks → AllByRecursion ElementFits (map (put (name_of s)) (picked all_elements ks))
   picked_fit [] l = tt
   picked_fit (k ∷ ks) l =
       (put_fits (name_of s) h.name (numbered all_elements k) (All-get_or ElementFits all_elements k blank l.0 h.request.elements), picked_fit ks l.1)
 
-  content_fits : All ElementFits (content s)
+  content_fits : AllByRecursion ElementFits (content s)
   content_fits = picked_fit (numbers_of s) (All-from_get_or (λ k. k < length all_elements) (numbers_of s) 0 (λ i l. number_in all_elements (numbers_of s) i s.numbers l))
 
-  content_untagged : All Untagged (content s)
+  content_untagged : AllByRecursion Untagged (content s)
   content_untagged = all_put Untagged (put (name_of s)) (chosen_of s) (put_untagged (name_of s))
 
   single_fits : RequestFits (request_of (content s))
