@@ -1,3 +1,5 @@
+#![tactic(auto)]
+
 pub mod command;
 mod options;
 pub mod parse;

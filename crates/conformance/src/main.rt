@@ -1,3 +1,5 @@
+#![tactic(auto)]
+
 mod case;
 mod collect;
 mod compare;

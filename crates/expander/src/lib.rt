@@ -1,3 +1,5 @@
+#![tactic(auto)]
+
 mod choices;
 mod content;
 mod decide;

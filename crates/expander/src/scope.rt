@@ -142,7 +142,7 @@ fn descendants(
         let found = queue[next];
         queue_children(links, found, &mut seen, &mut queue)?;
     }
-    queue.sort();
+    queue.sort()?;
     let mut nodes = Vec::new(heap);
     for found in queue.as_slice() {
         nodes.push(found.node)?;

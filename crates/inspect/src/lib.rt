@@ -1,3 +1,5 @@
+#![tactic(auto)]
+
 pub mod below;
 pub mod check;
 pub mod decide;

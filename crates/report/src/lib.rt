@@ -1,3 +1,5 @@
+#![tactic(auto)]
+
 pub mod failed;
 pub mod print;
 pub mod text;

@@ -1,3 +1,5 @@
+#![tactic(auto)]
+
 mod count;
 
 use count::count;
