@@ -18,6 +18,7 @@ use inspect::check::check;
 use inspect::decide::decide;
 use report::failed::Failed;
 use std::env;
+use std::process::ExitCode;
 
 fn run(rt: &HostRuntime, command: &Command) -> Result<(), Failed> {
     match command {
@@ -50,11 +51,20 @@ fn refuse_words(rt: &HostRuntime, misuse: &Misuse) -> Result<(), Failed> {
     Err(Failed)
 }
 
-fn main(rt: HostRuntime) -> Result<(), Failed> {
-    let mut words = env::args(&rt)?;
+// Reads the words and does what they ask for.
+fn obey(rt: &HostRuntime) -> Result<(), Failed> {
+    let mut words = env::args(rt)?;
     let _program = words.next();
     match parse(words) {
-        Ok(command) => run(&rt, &command),
-        Err(misuse) => refuse_words(&rt, &misuse),
+        Ok(command) => run(rt, &command),
+        Err(misuse) => refuse_words(rt, &misuse),
+    }
+}
+
+// What there is to say has been printed: a failure adds only the status.
+fn main(rt: HostRuntime) -> ExitCode {
+    match obey(&rt) {
+        Ok(()) => ExitCode::SUCCESS,
+        Err(Failed) => ExitCode::FAILURE,
     }
 }

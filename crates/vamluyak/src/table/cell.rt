@@ -4,8 +4,7 @@ use model::decision::Cause;
 use report::text::Text;
 use report::words;
 use request::request::Request;
-use std::fmt;
-use std::fmt::Write;
+use std::alloc::AllocError;
 use tree::Tree;
 
 // Categories, and the ids of the attributes that say who, does what, to which.
@@ -66,24 +65,24 @@ pub(crate) fn heading(column: Column) -> &'static str {
     }
 }
 
-fn write_text(line: &mut String, text: Option<&[u8]>) -> fmt::Result {
+fn write_text(line: &mut String, text: Option<&[u8]>) -> Result<(), AllocError> {
     match text {
         Some(text) => {
             let text = Text(text);
             write!(line, "{text}")
         }
-        None => line.write_char('-'),
+        None => line.push('-'),
     }
 }
 
-fn write_cause(line: &mut String, cause: Option<Cause>) -> fmt::Result {
+fn write_cause(line: &mut String, cause: Option<Cause>) -> Result<(), AllocError> {
     match cause {
         Some(cause) => {
             let number = cause.number();
             let why = words::cause(cause);
             write!(line, "{number} {why}")
         }
-        None => line.write_char('-'),
+        None => line.push('-'),
     }
 }
 
@@ -94,7 +93,7 @@ pub(crate) fn write_cell<T: Tree>(
     request: &Request,
     tree: &T,
     shown: &Shown,
-) -> fmt::Result {
+) -> Result<(), AllocError> {
     let row = shown.row;
     let elements = &shown.elements;
     match column {
@@ -105,20 +104,20 @@ pub(crate) fn write_cell<T: Tree>(
         Column::Action => write_text(line, value(request, elements, ACTION, ACTION_ID)),
         Column::Resource => write_text(line, value(request, elements, RESOURCE, RESOURCE_ID)),
         Column::Node => write_node(line, tree, row.node),
-        Column::Decision => line.write_str(words::decision(row.decision)),
-        Column::Status => line.write_str(words::status(row.status)),
+        Column::Decision => line.push_str(words::decision(row.decision)),
+        Column::Status => line.push_str(words::status(row.status)),
         Column::Cause => write_cause(line, row.cause),
         Column::Place => write!(line, "{}", Number(Some(usize::from(row.place)))),
     }
 }
 
-fn write_node<T: Tree>(line: &mut String, tree: &T, node: Option<usize>) -> fmt::Result {
+fn write_node<T: Tree>(line: &mut String, tree: &T, node: Option<usize>) -> Result<(), AllocError> {
     match node {
         Some(node) => write_text(line, tree.name(node)),
-        None => line.write_char('-'),
+        None => line.push('-'),
     }
 }
 
-fn write_number(line: &mut String, number: u64, total: u64) -> fmt::Result {
+fn write_number(line: &mut String, number: u64, total: u64) -> Result<(), AllocError> {
     write!(line, "{number} of {total}")
 }
