@@ -39,4 +39,4 @@ The status is 0 if all went well, and 1 if a file is refused or cannot be read, 
 the name, or if decide is given a request that is not a single one.
 ";
 
-pub(crate) const VERSION: &str = "vamluyak 0.3.0";
+pub(crate) const VERSION: &str = "vamluyak 0.2.0";
