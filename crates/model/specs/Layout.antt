@@ -1,5 +1,5 @@
 -- How a file is read: field after field, from a place and the bytes that follow it, to a value or to the first refusal. Assumes nothing.
-use Rattle.std.specs.Prelude.{ℕ, zero, suc, ◌+◌, ◌*◌, ◌^◌, Bool, cond, not, ◌&&◌, leb, List, [], ◌∷◌, ◌++◌, length, take, drop, Some, Ok, Err, Option, Result, ◌==◌, bit_and, nat_le}
+use Rattle.std.specs.Prelude.{ℕ, zero, suc, ◌+◌, ◌*◌, ◌^◌, Bool, cond, not, ◌&&◌, List, [], ◌∷◌, ◌++◌, length, take, drop, Some, Ok, Err, Option, Result, ◌==◌, bit_and, nat_le}
 use Rattle.model.specs.declared.item.Item.{Item}
 use Rattle.model.specs.declared.item.Kind.{Kind}
 
@@ -93,7 +93,7 @@ code low high = byte (λ b. nat_le low b && nat_le b high) 13
 
 -- a map; its named bits are the lowest ones, and make up `named`, so another stands exactly where the map is greater; 12 there
 abbrev pub flags : ℕ → Reader ℕ
-flags named = byte (λ b. leb b named) 12
+flags named = byte (λ b. nat_le b named) 12
 
 -- whether bit k of a map stands
 abbrev pub bit : ℕ → ℕ → Bool

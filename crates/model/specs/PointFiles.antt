@@ -88,15 +88,15 @@ abbrev pub some_has : List ℕ → List Attribute → Bool
 some_has v [] = false
 some_has v (a ∷ more) = same a.value v || some_has v more
 
-abbrev pub is_none : List Attribute → Bool
-is_none [] = true
-is_none (a ∷ more) = false
+abbrev pub has_none : List Attribute → Bool
+has_none [] = true
+has_none (a ∷ more) = false
 
 -- met where a compared attribute has the value; unknown where there is none to compare and one must be; else unmet
 abbrev pub truth : List Element → Condition → Truth
 truth es c =
     let candidates = compared c es in
-    cond (some_has c.value candidates) met (cond (is_none candidates && c.required) unknown unmet)
+    cond (some_has c.value candidates) met (cond (has_none candidates && c.required) unknown unmet)
 
 -- met where both are, unmet where one is, else unknown
 abbrev pub both : Truth → Truth → Truth

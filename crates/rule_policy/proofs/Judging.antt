@@ -6,7 +6,7 @@ use Rattle.std.proofs.lemmas.Bool.{cond-true, cond-false, and_right}
 use Rattle.model.specs.Content.{Attribute, Element}
 use Rattle.model.specs.Lists.{keep, nth}
 use Rattle.model.specs.Values.{same}
-use Rattle.model.specs.PointFiles.{Condition, Truth, met, unmet, unknown, comparable, in_category, some_has, is_none, truth, both, all_of}
+use Rattle.model.specs.PointFiles.{Condition, Truth, met, unmet, unknown, comparable, in_category, some_has, has_none, truth, both, all_of}
 use Rattle.single.specs.declared.seen.Seen.{Seen}
 use Rattle.single.specs.declared.single.SingleRequest.{SingleRequest}
 use Rattle.single.specs.Shown.{value_at, attribute_seen}
@@ -20,7 +20,7 @@ use Rattle.rule_policy.specs.Held.{condition_of, conditions_of}
 -- no attribute was compared, and none is left to be
 abbrev none_in : Bool → List Attribute → Bool
 none_in true xs = false
-none_in false xs = is_none xs
+none_in false xs = has_none xs
 
 abbrev verdict : Condition → Bool → List Attribute → Truth
 verdict c compared candidates = cond (some_has c.value candidates) met (cond (none_in compared candidates && c.required) unknown unmet)

@@ -9,7 +9,7 @@ use Rattle.model.specs.Content.{Attribute, Element}
 use Rattle.model.specs.Lists.{At, first, later, keep}
 use Rattle.model.specs.Values.{same}
 use Rattle.model.specs.Points.{Answer, answers}
-use Rattle.model.specs.PointFiles.{Condition, Rule, Truth, met, unmet, unknown, issued_by, comparable, in_category, some_has, is_none, truth, both, all_of, rule_answer, first_rule, policy_point}
+use Rattle.model.specs.PointFiles.{Condition, Rule, Truth, met, unmet, unknown, issued_by, comparable, in_category, some_has, has_none, truth, both, all_of, rule_answer, first_rule, policy_point}
 use Rattle.single.proofs.Values.{same_is, same_self}
 use Rattle.rule_policy.specs.Meaning.{One, Issued, Compares, Equals, HasOne, Met, Indeterminate, False, Fails, Gives, by_rule, by_open, by_none, FirstDecidingRule}
 
@@ -71,7 +71,7 @@ module _ (k : ℕ) (P : Attribute → Type 0) where
       (λ r. passed_to (eqb e.category k) e.attributes (in_category k es) (in_to es r))
       o
 
--- some-has and is_none, over what is kept
+-- some-has and has_none, over what is kept
 module _ (c : Condition) where
   has_step : (b : Bool) (a : Attribute) (xs : List Attribute) → comparable c a ≡ b → (some_has c.value (keep (comparable c) xs) ≡ true → One (Equals c) xs) → some_has c.value (cond b (a ∷ keep (comparable c) xs) (keep (comparable c) xs)) ≡ true → One (Equals c) (a ∷ xs)
   has_step true a xs is ih e = ⊎_elim (λ v. inl (record { compares = compares_from c a is; value = same_is _ _ v })) (λ r. inr (ih r)) (or_cases _ _ e)
@@ -92,22 +92,22 @@ module _ (c : Condition) where
       (λ r. has_more (comparable c a) a (keep (comparable c) xs) (has_to xs r))
       o
 
-  some_step : (b : Bool) (a : Attribute) (xs : List Attribute) → comparable c a ≡ b → (is_none (keep (comparable c) xs) ≡ false → One (Compares c) xs) → is_none (cond b (a ∷ keep (comparable c) xs) (keep (comparable c) xs)) ≡ false → One (Compares c) (a ∷ xs)
+  some_step : (b : Bool) (a : Attribute) (xs : List Attribute) → comparable c a ≡ b → (has_none (keep (comparable c) xs) ≡ false → One (Compares c) xs) → has_none (cond b (a ∷ keep (comparable c) xs) (keep (comparable c) xs)) ≡ false → One (Compares c) (a ∷ xs)
   some_step true a xs is ih e = inl (compares_from c a is)
   some_step false a xs is ih e = inr (ih e)
 
-  some_from : (xs : List Attribute) → is_none (keep (comparable c) xs) ≡ false → One (Compares c) xs
+  some_from : (xs : List Attribute) → has_none (keep (comparable c) xs) ≡ false → One (Compares c) xs
   some_from [] e = both_ways true e refl
   some_from (a ∷ xs) e = some_step (comparable c a) a xs refl (some_from xs) e
 
-  some_more : (b : Bool) (a : Attribute) (rest : List Attribute) → is_none rest ≡ false → is_none (cond b (a ∷ rest) rest) ≡ false
+  some_more : (b : Bool) (a : Attribute) (rest : List Attribute) → has_none rest ≡ false → has_none (cond b (a ∷ rest) rest) ≡ false
   some_more true a rest e = refl
   some_more false a rest e = e
 
-  some_to : (xs : List Attribute) → One (Compares c) xs → is_none (keep (comparable c) xs) ≡ false
+  some_to : (xs : List Attribute) → One (Compares c) xs → has_none (keep (comparable c) xs) ≡ false
   some_to [] o = absurd o
   some_to (a ∷ xs) o = ⊎_elim
-      (λ h. ap is_none (cond-true _ _ _ (compares_to c a h)))
+      (λ h. ap has_none (cond-true _ _ _ (compares_to c a h)))
       (λ r. some_more (comparable c a) a (keep (comparable c) xs) (some_to xs r))
       o
 
@@ -147,7 +147,7 @@ module _ (es : List Element) (c : Condition) where
   some_equal = some_has c.value (keep (comparable c) candidates)
 
   abbrev none_there : Bool
-  none_there = is_none (keep (comparable c) candidates)
+  none_there = has_none (keep (comparable c) candidates)
 
   met_from : some_equal ≡ true → Met es c
   met_from e = in_from c.category (Equals c) es (has_from c candidates e)

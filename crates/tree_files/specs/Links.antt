@@ -1,10 +1,10 @@
 -- The links of a tree, in ascending order. Assumes nothing.
-use Rattle.std.specs.Prelude.{◌≡◌, ℕ, ◌+◌, ◌<◌, Bool, false, List, length, get_or, slice_index_or}
+use Rattle.std.specs.Prelude.{◌≡◌, ℕ, ◌+◌, ◌<◌, Bool, false, List, length, slice_index_or}
 use Rattle.std.specs.Ordering.{is_lt, nat_cmp, ordering_then}
 
 -- every link joins nodes below n
 abbrev pub Ends : ℕ → List (ℕ × ℕ) → Type 0
-Ends n links = (i : ℕ) → i < length links → ((get_or links i (0, 0)).0 < n) × ((get_or links i (0, 0)).1 < n)
+Ends n links = (i : ℕ) → i < length links → ((slice_index_or links i (0, 0)).0 < n) × ((slice_index_or links i (0, 0)).1 < n)
 
 -- by parent, then by child
 abbrev pub link_less : ℕ × ℕ → ℕ × ℕ → Bool
