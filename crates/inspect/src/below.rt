@@ -2,7 +2,7 @@ use crate::file::read;
 use commandline::command::{Kind, Source};
 use report::failed::Failed;
 use report::print::refused::refuse;
-use report::print::tree::print_reached;
+use report::print::of_tree::print_reached;
 use tree::Tree;
 use tree::extent::Extent;
 use tree::reach::Reach;

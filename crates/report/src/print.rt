@@ -1,5 +1,5 @@
 pub mod described;
+pub mod of_request;
+pub mod of_tree;
 pub mod point;
 pub mod refused;
-pub mod request;
-pub mod tree;
