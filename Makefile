@@ -1,6 +1,6 @@
 # rt proves, compiles and links the program, and leaves it here.
-PROGRAM := target/bin/vamluyak
-SOURCES := crates.txt $(shell find crates -name must-fail -prune -o -type f -print)
+PROGRAM := crates/vamluyak/out/vamluyak
+SOURCES := crates.txt $(shell find crates \( -name must-fail -o -name out \) -prune -o -type f -print)
 
 .PHONY: demo test clean kit
 
@@ -28,16 +28,16 @@ demo: $(PROGRAM)
 	@echo '$$ $(PROGRAM) check request samples/refused-tag.hex'
 	@$(PROGRAM) check request samples/refused-tag.hex; test $$? -eq 1
 
-# Everything that is proved and tested, from nothing. The last line is that of rt ci.
+# Everything that is proved and tested. The last line is that of rt ci.
 test: kit
 	@tests/all.sh
 
 clean:
-	rm -rf target
+	rm -rf crates/*/out
 
 # What has not changed is not proved again.
 $(PROGRAM): $(SOURCES) | kit
-	rt check vamluyak
+	cd crates/vamluyak && rt run -- --version >/dev/null
 	@touch $@
 
 kit:

@@ -4,12 +4,12 @@
 #   bench/run.sh          36,864 rows: 12 subjects, 3 actions, and a resource with 1,024 nodes below it
 #   bench/run.sh most     5,308,416 rows, the most that a request can have
 #
-# It needs rustc, python3 and valgrind, and the program ROWS (target/bin/rows_bench if it is not set), which is given
+# It needs rustc, python3 and valgrind, and the program ROWS (crates/rows_bench/out/rows_bench if it is not set), which is given
 # the same three files as words and prints the same three lines; bench/baseline/main.rs says which. Where that program
 # is not built, only the plain one is measured.
 set -euo pipefail
 cd "$(dirname "$0")/.."
-rows=${ROWS:-target/bin/rows_bench}
+rows=${ROWS:-crates/rows_bench/out/rows_bench}
 set_name=${1:-many}
 folder=$(mktemp -d)
 trap 'rm -rf "$folder"' EXIT

@@ -1,12 +1,12 @@
 #!/usr/bin/env bash
 # Tests of the program vamluyak from outside: what it prints, and its exit status.
 #
-#   tests/program.sh [PROGRAM]        PROGRAM: the variable of that name, or target/bin/vamluyak, where it is not given
+#   tests/program.sh [PROGRAM]        PROGRAM: the variable of that name, or crates/vamluyak/out/vamluyak, where it is not given
 #
 # Prints a line for each case that fails and, last, how many ran and how many failed. Status 1 where one failed.
 set -euo pipefail
 cd "$(dirname "$0")/.."
-program=${1:-${PROGRAM:-target/bin/vamluyak}}
+program=${1:-${PROGRAM:-crates/vamluyak/out/vamluyak}}
 [ -x "$program" ] || { echo "tests/program.sh: there is no program at $program: run make demo" >&2; exit 1; }
 
 room=$(mktemp -d)

@@ -1,3 +1,5 @@
+ghost use Rattle.std.specs.Prelude.{◌<◌, IfOk};
+
 use crate::case::Case;
 use crate::random::Random;
 use expander::expand::{PointKind, TreeKind};
@@ -153,7 +155,10 @@ fn put_name(to: &mut Vec<u8>, random: &mut Random, node: u8) -> Result<(), Alloc
     }
 }
 
-fn put_names(to: &mut Vec<u8>, random: &mut Random, size: Size) -> Result<u8, AllocError> {
+// How many, less than 100.
+fn put_names(to: &mut Vec<u8>, random: &mut Random, size: Size) -> Result<u8, AllocError>
+    ensures { IfOk result (λ count. count < 100) }
+{
     let count = random.byte(size.nodes.min(100));
     to.push(0)?;
     to.push(count)?;

@@ -1,3 +1,5 @@
+ghost use Rattle.std.specs.Prelude.{◌≤◌, ◌-◌};
+
 // Numbers that look random and are the same in every run: Marsaglia's xorshift of 64 bits.
 #[derive(Clone, Copy)]
 pub struct Random {
@@ -20,7 +22,9 @@ impl Random {
     }
 
     // A number less than this one; 0 where that is 0.
-    pub fn below(&mut self, bound: u64) -> u64 {
+    pub fn below(&mut self, bound: u64) -> u64
+        ensures { result ≤ bound - 1 }
+    {
         self.next() % bound.max(1)
     }
 
@@ -29,7 +33,10 @@ impl Random {
         self.below(times) == 0
     }
 
-    pub fn byte(&mut self, bound: u8) -> u8 {
+    // The same of a byte.
+    pub fn byte(&mut self, bound: u8) -> u8
+        ensures { result ≤ bound - 1 }
+    {
         (self.below(u64::from(bound)) & 0xff) as u8
     }
 }
