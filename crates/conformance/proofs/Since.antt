@@ -1,5 +1,5 @@
 -- A caller's side of the law: some run of calls led here. Assumes nothing.
-use Rattle.std.proofs.Common.{◌≡◌, ℕ, ◌<◌, List, [], ◌∷◌, ◌++◌, length, Ok, Err, Result, sym, refl, ap, ◌∙◌, subst}
+use Rattle.std.proofs.Common.{◌≡◌, ℕ, ◌<◌, List, [], ◌∷◌, ◌++◌, length, Ok, Err, Result, refl, ap, subst}
 use Rattle.model.specs.declared.call.CallRefusal.{CallRefusal}
 use Rattle.model.specs.Content.{Request}
 use Rattle.model.specs.Layout.{Refusal}
