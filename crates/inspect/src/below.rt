@@ -1,8 +1,8 @@
 use crate::file::read;
 use commandline::command::{Kind, Source};
 use report::failed::Failed;
-use report::print::refused::refuse;
 use report::print::of_tree::print_reached;
+use report::print::refused::refuse;
 use tree::Tree;
 use tree::extent::Extent;
 use tree::reach::Reach;
