@@ -71,7 +71,7 @@ module _ (k : ℕ) (P : Attribute → Type 0) where
       (λ r. passed_to (eqb e.category k) e.attributes (in_category k es) (in_to es r))
       o
 
--- some-has and has_none, over what is kept
+-- some_has and has_none, over what is kept
 module _ (c : Condition) where
   has_step : (b : Bool) (a : Attribute) (xs : List Attribute) → comparable c a ≡ b → (some_has c.value (keep (comparable c) xs) ≡ true → One (Equals c) xs) → some_has c.value (cond b (a ∷ keep (comparable c) xs) (keep (comparable c) xs)) ≡ true → One (Equals c) (a ∷ xs)
   has_step true a xs is ih e = ⊎_elim (λ v. inl (record { compares = compares_from c a is; value = same_is _ _ v })) (λ r. inr (ih r)) (or_cases _ _ e)
