@@ -1,30 +1,64 @@
-// The kinds of file.
-#[derive(Clone, Copy)]
-pub enum Kind {
-    Request,
+use std::fmt;
+use std::str::FromStr;
+
+// The kinds of file that a tree is read from.
+#[derive(Clone, Copy, Debug, PartialEq)]
+pub enum TreeKind {
     Linked,
     Paths,
+}
+
+// The kinds of file that a decision point is read from.
+#[derive(Clone, Copy, Debug, PartialEq)]
+pub enum PointKind {
     Rules,
     Grants,
 }
 
+// The kinds of file.
+#[derive(Clone, Copy, Debug, PartialEq)]
+pub enum Kind {
+    Request,
+    Tree(TreeKind),
+    Point(PointKind),
+}
+
+// A word that names no kind of file.
+#[derive(Clone, Copy, Debug, PartialEq)]
+pub struct UnknownKind;
+
+impl FromStr for Kind {
+    type Err = UnknownKind;
+
+    fn from_str(word: &str) -> Result<Kind, UnknownKind> {
+        match word {
+            "request" => Ok(Kind::Request),
+            "linked" => Ok(Kind::Tree(TreeKind::Linked)),
+            "paths" => Ok(Kind::Tree(TreeKind::Paths)),
+            "rules" => Ok(Kind::Point(PointKind::Rules)),
+            "grants" => Ok(Kind::Point(PointKind::Grants)),
+            _ => Err(UnknownKind),
+        }
+    }
+}
+
 // A file, and how it is to be read.
-#[derive(Drop)]
-pub struct Source {
-    pub kind: Kind,
+#[derive(Debug, PartialEq, Drop)]
+pub struct Source<K> {
+    pub kind: K,
     pub file: String,
 }
 
 // The files of an enquiry.
-#[derive(Drop)]
+#[derive(Debug, PartialEq, Drop)]
 pub struct Files {
     pub request: String,
-    pub tree: Source,
-    pub point: Source,
+    pub tree: Source<TreeKind>,
+    pub point: Source<PointKind>,
 }
 
 // What an enquiry is opened for.
-#[derive(Clone, Copy)]
+#[derive(Clone, Copy, Debug, PartialEq)]
 pub enum Task {
     // Its rows.
     Rows,
@@ -34,24 +68,24 @@ pub enum Task {
     Work,
 }
 
-// What the words of the command line ask for.
-#[derive(Drop)]
+// What the words of the command line ask for. Flags: an extent belongs to `tree` and a form of output to `report`, and this crate depends on neither.
+#[derive(Debug, PartialEq, Drop)]
 pub enum Command {
     Help,
     Version,
     Check {
-        source: Source,
+        source: Source<Kind>,
         tsv: bool,
     },
     Below {
         name: String,
-        tree: Source,
+        tree: Source<TreeKind>,
         children: bool,
         tsv: bool,
     },
     Decide {
         request: String,
-        point: Source,
+        point: Source<PointKind>,
         tsv: bool,
     },
     Enquire {
@@ -62,10 +96,21 @@ pub enum Command {
 }
 
 // Why the words ask for nothing.
-#[derive(Drop)]
+#[derive(Debug, PartialEq, Drop)]
 pub enum Misuse {
     Missing(&'static str),
     Unknown(String),
     Twice(&'static str),
     Needless(&'static str),
+}
+
+impl fmt::Display for Misuse {
+    fn fmt<W: fmt::Write>(&self, f: &mut fmt::Formatter<W>) -> fmt::Result {
+        match self {
+            Misuse::Missing(what) => write!(f, "{what} is missing"),
+            Misuse::Unknown(word) => write!(f, "unknown word '{word}'"),
+            Misuse::Twice(what) => write!(f, "{what} is named twice"),
+            Misuse::Needless(what) => f.write_str(what),
+        }
+    }
 }

@@ -1,80 +1,69 @@
-use crate::command::{Kind, Misuse, Source};
+use crate::command::{Misuse, PointKind, Source, TreeKind};
 use std::env::Args;
 
 // The words after a command: one that is no option, and options in any order.
-#[derive(Drop)]
+#[derive(Debug, Default, PartialEq, Drop)]
 pub(crate) struct Options {
     pub(crate) operand: Option<String>,
-    pub(crate) tree: Option<Source>,
-    pub(crate) point: Option<Source>,
+    pub(crate) tree: Option<Source<TreeKind>>,
+    pub(crate) point: Option<Source<PointKind>>,
     pub(crate) children: bool,
     pub(crate) tsv: bool,
 }
 
-// An option that names a file has it in the next word.
-pub(crate) fn parse_options(words: Args) -> Result<Options, Misuse> {
-    let mut options = Options {
-        operand: None,
-        tree: None,
-        point: None,
-        children: false,
-        tsv: false,
-    };
-    let mut awaited = None;
-    for word in words {
-        awaited = match awaited {
-            Some(kind) => {
-                take_source(&mut options, Source { kind, file: word })?;
-                None
+// What is named once, by a file of one kind or another.
+trait Once: Drop {
+    const WHAT: &'static str;
+}
+
+impl Once for TreeKind {
+    const WHAT: &'static str = "a tree";
+}
+
+impl Once for PointKind {
+    const WHAT: &'static str = "a decision point";
+}
+
+impl Options {
+    // An option that names a file has it in the next word.
+    pub(crate) fn parse(mut words: Args) -> Result<Options, Misuse> {
+        let mut options = Options::default();
+        while let Some(word) = words.next() {
+            match word.as_str() {
+                "--tsv" => options.tsv = true,
+                "--children" => options.children = true,
+                "--linked" => take_source(&mut options.tree, TreeKind::Linked, words.next())?,
+                "--paths" => take_source(&mut options.tree, TreeKind::Paths, words.next())?,
+                "--rules" => take_source(&mut options.point, PointKind::Rules, words.next())?,
+                "--grants" => take_source(&mut options.point, PointKind::Grants, words.next())?,
+                _ => take_operand(&mut options.operand, word)?,
             }
-            None => take_word(&mut options, word)?,
-        };
+        }
+        Ok(options)
     }
-    if awaited.is_some() {
-        return Err(Misuse::Missing("the file after the last option"));
-    }
-    Ok(options)
 }
 
-// Takes a word; answers the kind of file that the next word names, if it does.
-fn take_word(options: &mut Options, word: String) -> Result<Option<Kind>, Misuse> {
-    match word.as_str() {
-        "--tsv" => options.tsv = true,
-        "--children" => options.children = true,
-        "--linked" => return Ok(Some(Kind::Linked)),
-        "--paths" => return Ok(Some(Kind::Paths)),
-        "--rules" => return Ok(Some(Kind::Rules)),
-        "--grants" => return Ok(Some(Kind::Grants)),
-        _ => take_operand(options, word)?,
+// Keeps the file that the word after an option names.
+fn take_source<K: Once>(
+    place: &mut Option<Source<K>>,
+    kind: K,
+    next: Option<String>,
+) -> Result<(), Misuse> {
+    let file = next.ok_or(Misuse::Missing("the file after the last option"))?;
+    if file.starts_with("--") {
+        return Err(Misuse::Missing("the file after an option"));
     }
-    Ok(None)
-}
-
-fn take_operand(options: &mut Options, word: String) -> Result<(), Misuse> {
-    if word.starts_with("--") || options.operand.is_some() {
-        return Err(Misuse::Unknown(word));
+    if place.is_some() {
+        return Err(Misuse::Twice(K::WHAT));
     }
-    options.operand = Some(word);
+    *place = Some(Source { kind, file });
     Ok(())
 }
 
-fn take_source(options: &mut Options, source: Source) -> Result<(), Misuse> {
-    if source.file.starts_with("--") {
-        return Err(Misuse::Missing("the file after an option"));
+fn take_operand(operand: &mut Option<String>, word: String) -> Result<(), Misuse> {
+    if word.starts_with("--") || operand.is_some() {
+        return Err(Misuse::Unknown(word));
     }
-    match source.kind {
-        Kind::Linked | Kind::Paths => {
-            if options.tree.is_some() {
-                return Err(Misuse::Twice("a tree"));
-            }
-            options.tree = Some(source);
-        }
-        _ => {
-            if options.point.is_some() {
-                return Err(Misuse::Twice("a decision point"));
-            }
-            options.point = Some(source);
-        }
-    }
+    *operand = Some(word);
     Ok(())
 }

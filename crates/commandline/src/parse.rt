@@ -1,5 +1,5 @@
-use crate::command::{Command, Files, Kind, Misuse, Source, Task};
-use crate::options::{Options, parse_options};
+use crate::command::{Command, Files, Misuse, Source, Task};
+use crate::options::Options;
 use std::env::Args;
 
 const TREE: &str = "--linked FILE or --paths FILE";
@@ -8,9 +8,7 @@ const POINT: &str = "--rules FILE or --grants FILE";
 
 // The words after the program's name.
 pub fn parse(mut words: Args) -> Result<Command, Misuse> {
-    let Some(command) = words.next() else {
-        return Err(Misuse::Missing("a command"));
-    };
+    let command = words.next().ok_or(Misuse::Missing("a command"))?;
     match command.as_str() {
         "--help" => alone(words, Command::Help),
         "--version" => alone(words, Command::Version),
@@ -32,22 +30,9 @@ fn alone(mut words: Args, command: Command) -> Result<Command, Misuse> {
     }
 }
 
-fn kind_named(word: &str) -> Option<Kind> {
-    match word {
-        "request" => Some(Kind::Request),
-        "linked" => Some(Kind::Linked),
-        "paths" => Some(Kind::Paths),
-        "rules" => Some(Kind::Rules),
-        "grants" => Some(Kind::Grants),
-        _ => None,
-    }
-}
-
 fn parse_check(mut words: Args) -> Result<Command, Misuse> {
-    let Some(word) = words.next() else {
-        return Err(Misuse::Missing("the kind of file"));
-    };
-    let Some(kind) = kind_named(word.as_str()) else {
+    let word = words.next().ok_or(Misuse::Missing("the kind of file"))?;
+    let Ok(kind) = word.parse() else {
         return Err(Misuse::Unknown(word));
     };
     let Options {
@@ -56,13 +41,11 @@ fn parse_check(mut words: Args) -> Result<Command, Misuse> {
         point,
         children,
         tsv,
-    } = parse_options(words)?;
+    } = Options::parse(words)?;
     if tree.is_some() || point.is_some() || children {
         return Err(Misuse::Needless("check takes no option but --tsv"));
     }
-    let Some(file) = operand else {
-        return Err(Misuse::Missing("the file"));
-    };
+    let file = operand.ok_or(Misuse::Missing("the file"))?;
     let source = Source { kind, file };
     Ok(Command::Check { source, tsv })
 }
@@ -74,19 +57,13 @@ fn parse_below(words: Args) -> Result<Command, Misuse> {
         point,
         children,
         tsv,
-    } = parse_options(words)?;
+    } = Options::parse(words)?;
     if point.is_some() {
         return Err(Misuse::Needless("below takes no decision point"));
     }
-    let Some(name) = operand else {
-        return Err(Misuse::Missing("the name of a node"));
-    };
-    let Some(tree) = tree else {
-        return Err(Misuse::Missing(TREE));
-    };
     Ok(Command::Below {
-        name,
-        tree,
+        name: operand.ok_or(Misuse::Missing("the name of a node"))?,
+        tree: tree.ok_or(Misuse::Missing(TREE))?,
         children,
         tsv,
     })
@@ -99,19 +76,13 @@ fn parse_decide(words: Args) -> Result<Command, Misuse> {
         point,
         children,
         tsv,
-    } = parse_options(words)?;
+    } = Options::parse(words)?;
     if tree.is_some() || children {
         return Err(Misuse::Needless("decide takes no tree and no --children"));
     }
-    let Some(request) = operand else {
-        return Err(Misuse::Missing("the request"));
-    };
-    let Some(point) = point else {
-        return Err(Misuse::Missing(POINT));
-    };
     Ok(Command::Decide {
-        request,
-        point,
+        request: operand.ok_or(Misuse::Missing("the request"))?,
+        point: point.ok_or(Misuse::Missing(POINT))?,
         tsv,
     })
 }
@@ -123,23 +94,14 @@ fn parse_enquire(words: Args, task: Task) -> Result<Command, Misuse> {
         point,
         children,
         tsv,
-    } = parse_options(words)?;
+    } = Options::parse(words)?;
     if children {
         return Err(Misuse::Needless("only below takes --children"));
     }
-    let Some(request) = operand else {
-        return Err(Misuse::Missing("the request"));
-    };
-    let Some(tree) = tree else {
-        return Err(Misuse::Missing(TREE));
-    };
-    let Some(point) = point else {
-        return Err(Misuse::Missing(POINT));
-    };
     let files = Files {
-        request,
-        tree,
-        point,
+        request: operand.ok_or(Misuse::Missing("the request"))?,
+        tree: tree.ok_or(Misuse::Missing(TREE))?,
+        point: point.ok_or(Misuse::Missing(POINT))?,
     };
     Ok(Command::Enquire { task, files, tsv })
 }

@@ -1,11 +1,9 @@
-use expander::expand::{PointKind, TreeKind};
+use expander::expand::{PointFile, TreeFile};
 
 // The files of one enquiry.
-#[derive(Drop)]
+#[derive(Debug, PartialEq, Drop)]
 pub struct Case {
     pub request: Vec<u8>,
-    pub tree_kind: TreeKind,
-    pub tree: Vec<u8>,
-    pub point_kind: PointKind,
-    pub point: Vec<u8>,
+    pub tree: TreeFile,
+    pub point: PointFile,
 }

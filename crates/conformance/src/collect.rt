@@ -1,12 +1,13 @@
-ghost use Rattle.std.specs.Prelude.{MatchResult};
+ghost use Rattle.std.specs.Prelude.{◌≡◌, MatchResult};
 ghost use Rattle.model.specs.Content.{read_request};
+ghost use Rattle.conformance.specs.declared.collect.Stop.TheVariants.{Refused, NoMemory};
 ghost use Rattle.conformance.specs.Collected.{rows_of, Complete, Stopped};
 
 use decision::point::DecisionPoint;
 use enquiry::enquiry::Enquiry;
 use enquiry::row::Row;
 use request::fault::RequestFault;
-use std::alloc::Global;
+use std::alloc::{AllocError, AllocFailed, Global};
 use tree::Tree;
 
 // Why there are no rows.
@@ -14,6 +15,30 @@ use tree::Tree;
 pub enum Stop {
     Refused(RequestFault),
     NoMemory,
+}
+
+impl From<RequestFault> for Stop {
+    ghost from_gives = { λ fault stop. stop ≡ Refused fault };
+
+    fn from(fault: RequestFault) -> Stop {
+        Stop::Refused(fault)
+    }
+}
+
+impl From<AllocError> for Stop {
+    ghost from_gives = { λ _ stop. stop ≡ NoMemory };
+
+    fn from(_error: AllocError) -> Stop {
+        Stop::NoMemory
+    }
+}
+
+impl<T: Drop> From<AllocFailed<T>> for Stop {
+    ghost from_gives = { λ _ stop. stop ≡ NoMemory };
+
+    fn from(_error: AllocFailed<T>) -> Stop {
+        Stop::NoMemory
+    }
 }
 
 // All rows of a request, one step after another. That they are all of them, in order, none missing and none twice,
@@ -26,17 +51,11 @@ pub fn all_rows<T: Tree, P: DecisionPoint>(
 ) -> Result<Vec<Row>, Stop>
     ensures { MatchResult result (λ v. Complete (T.meaning tree.now) (P.answer point.now) (read_request bytes.now) (rows_of v.items)) (λ stop. Stopped (read_request bytes.now) stop) }
 {
-    let Ok(mut enquiry) = Enquiry::new(heap) else {
-        return Err(Stop::NoMemory);
-    };
-    if let Err(fault) = enquiry.open(bytes, tree) {
-        return Err(Stop::Refused(fault));
-    }
+    let mut enquiry = Enquiry::new(heap)?;
+    enquiry.open(bytes, tree)?;
     let mut rows = Vec::new(heap);
     while let Ok(row) = enquiry.step(tree, point) {
-        if rows.push(row).is_err() {
-            return Err(Stop::NoMemory);
-        }
+        rows.push(row)?;
     }
     Ok(rows)
 }

@@ -4,14 +4,13 @@ use decision::point::DecisionPoint;
 use enquiry::enquiry::Enquiry;
 use enquiry::row::Row;
 use expander::error::ExpandError;
-use expander::expand::{PointKind, TreeKind, expand};
+use expander::expand::{PointFile, TreeFile, expand};
 use expander::row::{Expanded, OracleRow};
 use expansion::few::Few;
 use grants::grants::Grants;
 use model::call::CallRefusal;
 use request::request::Request;
 use rule_policy::policy::RulePolicy;
-use single::value::same_bytes;
 use std::alloc::{AllocError, Global};
 use tree::Tree;
 use tree_files::linked::LinkedTree;
@@ -29,15 +28,9 @@ fn same_choice(choice: &Option<Few>, other: &Option<Vec<usize>>) -> bool {
 }
 
 fn same_positions(few: &[u8], positions: &[usize]) -> bool {
-    if few.len() != positions.len() {
-        return false;
-    }
-    for i in 0..few.len() {
-        if usize::from(few[i]) != positions[i] {
-            return false;
-        }
-    }
-    true
+    few.iter()
+        .map(|position| usize::from(*position))
+        .eq(positions.iter().copied())
 }
 
 fn same_row(row: &Row, other: &OracleRow) -> bool {
@@ -51,23 +44,19 @@ fn same_row(row: &Row, other: &OracleRow) -> bool {
 }
 
 fn same_rows(rows: &[Row], others: &[OracleRow]) -> bool {
-    if rows.len() != others.len() {
-        return false;
-    }
-    for i in 0..rows.len() {
-        if !same_row(&rows[i], &others[i]) {
-            return false;
-        }
-    }
-    true
+    rows.len() == others.len()
+        && rows
+            .iter()
+            .zip(others)
+            .all(|(row, other)| same_row(row, other))
 }
 
 fn same_shown(shown: Result<usize, CallRefusal>, buffer: &[u8], single: &Option<Vec<u8>>) -> bool {
     match (shown, single) {
-        (Ok(length), Some(bytes)) => {
-            length <= buffer.len() && same_bytes(&buffer[0..length], bytes.as_slice())
-        }
-        (Err(CallRefusal::FaultRow), None) => true,
+        (Ok(length), Some(bytes)) => buffer
+            .get(0..length)
+            .is_some_and(|written| written == bytes.as_slice()),
+        (Err(refusal), None) => refusal == CallRefusal::FaultRow,
         _ => false,
     }
 }
@@ -93,14 +82,6 @@ fn same_singles<T: Tree, P: DecisionPoint>(
     Ok(enquiry.step(tree, point).is_err())
 }
 
-fn same_verdict(enquiry: &Enquiry<'_>, expected: &Expanded) -> bool {
-    match (enquiry.verdict(), expected.verdict) {
-        (Ok(decision), Some(other)) => decision == other,
-        (Err(CallRefusal::NoVerdict), None) => true,
-        _ => false,
-    }
-}
-
 // Whether the rows, the single requests, also after a rewind, and the verdict are those that are expected.
 fn agrees<T: Tree, P: DecisionPoint>(
     heap: Global,
@@ -120,74 +101,66 @@ fn agrees<T: Tree, P: DecisionPoint>(
     if enquiry.open(request, tree).is_err() {
         return Ok(false);
     }
-    if !same_singles(heap, &mut enquiry, tree, point, others)? {
-        return Ok(false);
-    }
+    let shown = same_singles(heap, &mut enquiry, tree, point, others)?;
     enquiry.rewind(tree);
-    if !same_singles(heap, &mut enquiry, tree, point, others)? {
-        return Ok(false);
+    let shown_again = same_singles(heap, &mut enquiry, tree, point, others)?;
+    let verdict = expected.verdict.ok_or(CallRefusal::NoVerdict);
+    Ok(shown && shown_again && enquiry.verdict() == verdict)
+}
+
+// The tree and the decision point, if the library accepts all three files; else what the first that it refuses is called.
+fn opened<'o, T: Tree, P: DecisionPoint>(
+    heap: Global,
+    request: &[u8],
+    tree: Option<&'o T>,
+    point: Option<&'o P>,
+) -> Result<Result<(&'o T, &'o P), ExpandError>, AllocError> {
+    if Request::new(heap)?.open(request).is_err() {
+        return Ok(Err(ExpandError::BadRequest));
     }
-    Ok(same_verdict(&enquiry, expected))
+    let Some(tree) = tree else {
+        return Ok(Err(ExpandError::BadTree));
+    };
+    Ok(
+        point
+            .map(|point| (tree, point))
+            .ok_or(ExpandError::BadPoint),
+    )
 }
 
-// Which of the files the library accepts.
-#[derive(Clone, Copy)]
-struct Accepted {
-    request: bool,
-    tree: bool,
-    point: bool,
-}
-
+// Want of memory is no agreement.
 fn same_outcome<T: Tree, P: DecisionPoint>(
     heap: Global,
     request: &[u8],
-    tree: &T,
-    point: &P,
-    accepted: Accepted,
+    tree: Option<&T>,
+    point: Option<&P>,
     expected: &Result<Expanded, ExpandError>,
 ) -> Result<bool, AllocError> {
-    match expected {
-        Ok(expanded) => {
-            if !(accepted.request && accepted.tree && accepted.point) {
-                return Ok(false);
-            }
-            agrees(heap, request, tree, point, expanded)
-        }
-        Err(ExpandError::BadRequest) => Ok(!accepted.request),
-        Err(ExpandError::BadTree) => Ok(accepted.request && !accepted.tree),
-        Err(ExpandError::BadPoint) => Ok(accepted.request && accepted.tree && !accepted.point),
-        Err(ExpandError::NoMemory) => Ok(false),
+    match (opened(heap, request, tree, point)?, expected) {
+        (Ok((tree, point)), Ok(expanded)) => agrees(heap, request, tree, point, expanded),
+        (Err(refused), Err(other)) => Ok(refused == *other),
+        _ => Ok(false),
     }
 }
 
+// The arms here and in `same` differ in a type alone; a trait for it would have an impl as long as each of them.
 fn over_tree<T: Tree>(
     heap: Global,
     case: &Case,
-    tree: &T,
-    tree_accepted: bool,
+    tree: Option<&T>,
     expected: &Result<Expanded, ExpandError>,
 ) -> Result<bool, AllocError> {
-    let mut request = Request::new(heap)?;
-    let request_accepted = request.open(case.request.as_slice()).is_ok();
-    let bytes = case.request.as_slice();
-    match case.point_kind {
-        PointKind::Rules => {
+    let request = case.request.as_slice();
+    match &case.point {
+        PointFile::Rules(bytes) => {
             let mut point = RulePolicy::new(heap)?;
-            let accepted = Accepted {
-                request: request_accepted,
-                tree: tree_accepted,
-                point: point.open(case.point.as_slice()).is_ok(),
-            };
-            same_outcome(heap, bytes, tree, &point, accepted, expected)
+            let accepted = point.open(bytes.as_slice()).is_ok();
+            same_outcome(heap, request, tree, accepted.then_some(&point), expected)
         }
-        PointKind::Grants => {
+        PointFile::Grants(bytes) => {
             let mut point = Grants::new(heap)?;
-            let accepted = Accepted {
-                request: request_accepted,
-                tree: tree_accepted,
-                point: point.open(case.point.as_slice()).is_ok(),
-            };
-            same_outcome(heap, bytes, tree, &point, accepted, expected)
+            let accepted = point.open(bytes.as_slice()).is_ok();
+            same_outcome(heap, request, tree, accepted.then_some(&point), expected)
         }
     }
 }
@@ -198,26 +171,21 @@ pub fn same(
     case: &Case,
     expected: &Result<Expanded, ExpandError>,
 ) -> Result<bool, AllocError> {
-    match case.tree_kind {
-        TreeKind::Linked => {
+    match &case.tree {
+        TreeFile::Linked(bytes) => {
             let mut tree = LinkedTree::new(heap)?;
-            let accepted = tree.open(case.tree.as_slice()).is_ok();
-            over_tree(heap, case, &tree, accepted, expected)
+            let accepted = tree.open(bytes.as_slice()).is_ok();
+            over_tree(heap, case, accepted.then_some(&tree), expected)
         }
-        TreeKind::Paths => {
+        TreeFile::Paths(bytes) => {
             let mut tree = PathTree::new(heap)?;
-            let accepted = tree.open(case.tree.as_slice()).is_ok();
-            over_tree(heap, case, &tree, accepted, expected)
+            let accepted = tree.open(bytes.as_slice()).is_ok();
+            over_tree(heap, case, accepted.then_some(&tree), expected)
         }
     }
 }
 
 // What the second expander gives for a case.
 pub fn expected(heap: Global, case: &Case) -> Result<Expanded, ExpandError> {
-    expand(
-        heap,
-        case.request.as_slice(),
-        (case.tree_kind, case.tree.as_slice()),
-        (case.point_kind, case.point.as_slice()),
-    )
+    expand(heap, case.request.as_slice(), &case.tree, &case.point)
 }

@@ -2,7 +2,7 @@ ghost use Rattle.std.specs.Prelude.{◌<◌, IfOk};
 
 use crate::case::Case;
 use crate::random::Random;
-use expander::expand::{PointKind, TreeKind};
+use expander::expand::{PointFile, TreeFile};
 use std::alloc::{AllocError, Global};
 
 // How large a case may be: elements of the request, nodes of the tree.
@@ -38,10 +38,7 @@ fn scope(random: &mut Random) -> &'static [u8] {
 
 fn put_text(to: &mut Vec<u8>, text: &[u8]) -> Result<(), AllocError> {
     to.push(text.len().min(255) as u8)?;
-    for byte in text {
-        to.push(*byte)?;
-    }
-    Ok(())
+    to.extend_from_slice(text)
 }
 
 // An attribute, or a condition where a category is given.
@@ -238,10 +235,22 @@ fn damage(random: &mut Random, bytes: &mut Vec<u8>) -> Result<(), AllocError> {
     }
     let place = random.below(bytes.len() as u64) as usize;
     let byte = random.byte(70);
-    if place < bytes.len() {
-        bytes[place] = byte;
+    if let Some(there) = bytes.get_mut(place) {
+        *there = byte;
     }
     Ok(())
+}
+
+// A file as it stands, or damaged once in so many times.
+fn perhaps_damaged(
+    mut bytes: Vec<u8>,
+    random: &mut Random,
+    damaged: u64,
+) -> Result<Vec<u8>, AllocError> {
+    if random.once_in(damaged) {
+        damage(random, &mut bytes)?;
+    }
+    Ok(bytes)
 }
 
 // The files of one enquiry; one in so many of the files is damaged.
@@ -251,41 +260,20 @@ pub fn case(
     size: Size,
     damaged: u64,
 ) -> Result<Case, AllocError> {
-    let mut request = request(heap, random, size)?;
-    if random.once_in(damaged) {
-        damage(random, &mut request)?;
-    }
-    let linked = random.once_in(2);
-    let mut tree = if linked {
-        linked_tree(heap, random, size)?
+    let request = perhaps_damaged(request(heap, random, size)?, random, damaged)?;
+    let tree = if random.once_in(2) {
+        TreeFile::Linked(perhaps_damaged(linked_tree(heap, random, size)?, random, damaged)?)
     } else {
-        path_tree(heap, random, size)?
+        TreeFile::Paths(perhaps_damaged(path_tree(heap, random, size)?, random, damaged)?)
     };
-    if random.once_in(damaged) {
-        damage(random, &mut tree)?;
-    }
-    let ruled = random.once_in(2);
-    let mut point = if ruled {
-        policy(heap, random)?
+    let point = if random.once_in(2) {
+        PointFile::Rules(perhaps_damaged(policy(heap, random)?, random, damaged)?)
     } else {
-        grants(heap, random)?
+        PointFile::Grants(perhaps_damaged(grants(heap, random)?, random, damaged)?)
     };
-    if random.once_in(damaged) {
-        damage(random, &mut point)?;
-    }
     Ok(Case {
         request,
-        tree_kind: if linked {
-            TreeKind::Linked
-        } else {
-            TreeKind::Paths
-        },
         tree,
-        point_kind: if ruled {
-            PointKind::Rules
-        } else {
-            PointKind::Grants
-        },
         point,
     })
 }

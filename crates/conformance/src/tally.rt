@@ -1,55 +1,69 @@
 use expander::error::ExpandError;
 use expander::row::Expanded;
 use model::decision::Decision;
+use std::fmt;
 
 // What has been compared so far.
-#[derive(Clone, Copy)]
+#[derive(Clone, Copy, Debug, Default, PartialEq)]
 pub struct Tally {
-    pub cases: u64,
-    pub different: u64,
+    cases: u64,
+    different: u64,
     // Cases of which a file is refused.
-    pub refused: u64,
-    pub rows: u64,
+    refused: u64,
+    rows: u64,
     // Of the rows, those with a node, and those at fault.
-    pub nodes: u64,
-    pub faults: u64,
-    pub permits: u64,
+    nodes: u64,
+    faults: u64,
+    permits: u64,
     // Verdicts that were asked for.
-    pub verdicts: u64,
+    verdicts: u64,
+}
+
+fn count(counter: &mut u64, holds: bool) {
+    *counter = counter.saturating_add(u64::from(holds));
 }
 
 impl Tally {
-    pub fn new() -> Tally {
-        Tally {
-            cases: 0,
-            different: 0,
-            refused: 0,
-            rows: 0,
-            nodes: 0,
-            faults: 0,
-            permits: 0,
-            verdicts: 0,
-        }
-    }
-
     fn add_rows(&mut self, expanded: &Expanded) {
         for row in &expanded.rows {
-            self.rows = self.rows.saturating_add(1);
-            self.nodes = self.nodes.saturating_add(u64::from(row.node.is_some()));
-            self.faults = self.faults.saturating_add(u64::from(row.cause.is_some()));
-            let permit = matches!(row.decision, Decision::Permit);
-            self.permits = self.permits.saturating_add(u64::from(permit));
+            count(&mut self.rows, true);
+            count(&mut self.nodes, row.node.is_some());
+            count(&mut self.faults, row.cause.is_some());
+            count(&mut self.permits, row.decision == Decision::Permit);
         }
-        let asked = expanded.verdict.is_some();
-        self.verdicts = self.verdicts.saturating_add(u64::from(asked));
+        count(&mut self.verdicts, expanded.verdict.is_some());
     }
 
     pub fn add(&mut self, expected: &Result<Expanded, ExpandError>, same: bool) {
-        self.cases = self.cases.saturating_add(1);
-        self.different = self.different.saturating_add(u64::from(!same));
-        match expected {
-            Ok(expanded) => self.add_rows(expanded),
-            Err(_) => self.refused = self.refused.saturating_add(1),
+        count(&mut self.cases, true);
+        count(&mut self.different, !same);
+        count(&mut self.refused, expected.is_err());
+        if let Ok(expanded) = expected {
+            self.add_rows(expanded);
         }
+    }
+}
+
+impl fmt::Display for Tally {
+    fn fmt<W: fmt::Write>(&self, f: &mut fmt::Formatter<W>) -> fmt::Result {
+        let Tally {
+            cases,
+            different,
+            refused,
+            rows,
+            nodes,
+            faults,
+            permits,
+            verdicts,
+        } = self;
+        writeln!(f, "{cases} cases, {different} different")?;
+        writeln!(
+            f,
+            "  {refused} with a refused file, {verdicts} with a verdict"
+        )?;
+        write!(
+            f,
+            "  {rows} rows, {nodes} with a node, {faults} at fault, {permits} Permit"
+        )
     }
 }

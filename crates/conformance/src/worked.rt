@@ -1,6 +1,7 @@
 use crate::case::Case;
 use crate::compare::{expected, same};
-use expander::expand::{PointKind, TreeKind};
+use expander::expand::{PointFile, TreeFile};
+use expander::row::Expanded;
 use model::decision::{Cause, Decision};
 use std::alloc::{AllocError, Global};
 
@@ -39,103 +40,90 @@ const UNKNOWN_THEN_FALSE: [u8; 14] = *b"\x01\x01\x01\x02\x04\x02\x09\x01x\x00\x0
 // The first of the two conditions alone.
 const UNKNOWN_ALONE: [u8; 9] = *b"\x01\x01\x01\x01\x04\x02\x09\x01x";
 
-fn copied(heap: Global, bytes: &[u8]) -> Result<Vec<u8>, AllocError> {
-    let mut copy = Vec::new(heap);
-    for byte in bytes {
-        copy.push(*byte)?;
-    }
-    Ok(copy)
+fn linked(heap: Global, bytes: &[u8]) -> Result<TreeFile, AllocError> {
+    Ok(TreeFile::Linked(Vec::from_slice(heap, bytes)?))
+}
+
+fn paths(heap: Global, bytes: &[u8]) -> Result<TreeFile, AllocError> {
+    Ok(TreeFile::Paths(Vec::from_slice(heap, bytes)?))
+}
+
+fn rules(heap: Global, bytes: &[u8]) -> Result<PointFile, AllocError> {
+    Ok(PointFile::Rules(Vec::from_slice(heap, bytes)?))
+}
+
+fn grants(heap: Global, bytes: &[u8]) -> Result<PointFile, AllocError> {
+    Ok(PointFile::Grants(Vec::from_slice(heap, bytes)?))
 }
 
 fn case(
     heap: Global,
     request: &[u8],
-    tree_kind: TreeKind,
-    tree: &[u8],
-    point_kind: PointKind,
-    point: &[u8],
+    tree: TreeFile,
+    point: PointFile,
 ) -> Result<Case, AllocError> {
     Ok(Case {
-        request: copied(heap, request)?,
-        tree_kind,
-        tree: copied(heap, tree)?,
-        point_kind,
-        point: copied(heap, point)?,
+        request: Vec::from_slice(heap, request)?,
+        tree,
+        point,
     })
 }
 
 // A request of one element with one attribute, whose value has this length.
 fn with_value(heap: Global, length: u8) -> Result<Case, AllocError> {
-    let mut request = copied(heap, &[0, 1, 2, 9, 1, 0, 9])?;
-    request.push(length)?;
-    for _ in 0..length {
-        request.push(b'v')?;
-    }
+    let mut request = Vec::from_slice(heap, &[0, 1, 2, 9, 1, 0, 9, length])?;
+    request.resize(8 + usize::from(length), b'v')?;
     Ok(Case {
         request,
-        tree_kind: TreeKind::Paths,
-        tree: copied(heap, &NO_NODES)?,
-        point_kind: PointKind::Grants,
-        point: copied(heap, &NO_LINES)?,
+        tree: paths(heap, &NO_NODES)?,
+        point: grants(heap, &NO_LINES)?,
     })
 }
 
-// Whether both accept a value of this length.
-pub fn value_is_read(heap: Global, length: u8) -> Result<bool, AllocError> {
+// Whether both accept a value of this length, or both refuse it; none where they differ.
+fn is_value_read(heap: Global, length: u8) -> Result<Option<bool>, AllocError> {
     let case = with_value(heap, length)?;
     let expanded = expected(heap, &case);
-    Ok(expanded.is_ok() && same(heap, &case, &expanded)?)
+    Ok(same(heap, &case, &expanded)?.then_some(expanded.is_ok()))
 }
 
-// Whether both refuse it.
+pub fn value_is_read(heap: Global, length: u8) -> Result<bool, AllocError> {
+    Ok(is_value_read(heap, length)? == Some(true))
+}
+
 pub fn value_is_refused(heap: Global, length: u8) -> Result<bool, AllocError> {
-    let case = with_value(heap, length)?;
-    let expanded = expected(heap, &case);
-    Ok(expanded.is_err() && same(heap, &case, &expanded)?)
+    Ok(is_value_read(heap, length)? == Some(false))
+}
+
+// What the second expander gives for a case, where the library does the same.
+fn agreed(heap: Global, case: &Case) -> Result<Option<Expanded>, AllocError> {
+    let expanded = expected(heap, case);
+    let agreed = same(heap, case, &expanded)?;
+    Ok(expanded.ok().filter(|_| agreed))
 }
 
 // Whether a scope in small letters is cause 43 to both.
 pub fn small_letters_are_no_scope(heap: Global) -> Result<bool, AllocError> {
-    let case = case(
-        heap,
-        &SMALL_LETTERS,
-        TreeKind::Paths,
-        &PATHS,
-        PointKind::Grants,
-        &NO_LINES,
-    )?;
-    let expanded = expected(heap, &case);
-    let agreed = same(heap, &case, &expanded)?;
-    let Ok(expanded) = expanded else {
-        return Ok(false);
-    };
-    let rows = expanded.rows.as_slice();
-    Ok(agreed && rows.len() == 1 && rows[0].cause == Some(Cause::BadScope))
+    let tree = paths(heap, &PATHS)?;
+    let case = case(heap, &SMALL_LETTERS, tree, grants(heap, &NO_LINES)?)?;
+    Ok(agreed(heap, &case)?.is_some_and(|expanded| match expanded.rows.as_slice() {
+        [row] => row.cause == Some(Cause::BadScope),
+        _ => false,
+    }))
 }
 
 // Whether rows Permit and NotApplicable have the verdict Deny to both.
 pub fn mixed_rows_are_denied(heap: Global) -> Result<bool, AllocError> {
-    let case = case(
-        heap,
-        &TWO_SUBJECTS,
-        TreeKind::Paths,
-        &NO_NODES,
-        PointKind::Rules,
-        &PERMIT_S,
-    )?;
-    let expanded = expected(heap, &case);
-    let agreed = same(heap, &case, &expanded)?;
-    let Ok(expanded) = expanded else {
-        return Ok(false);
-    };
-    let rows = expanded.rows.as_slice();
-    Ok(
-        agreed
-            && rows.len() == 2
-            && rows[0].decision == Decision::Permit
-            && rows[1].decision == Decision::NotApplicable
-            && expanded.verdict == Some(Decision::Deny),
-    )
+    let tree = paths(heap, &NO_NODES)?;
+    let case = case(heap, &TWO_SUBJECTS, tree, rules(heap, &PERMIT_S)?)?;
+    Ok(agreed(heap, &case)?.is_some_and(|expanded| match expanded.rows.as_slice() {
+        [first, second] => {
+            first.decision == Decision::Permit
+                && second.decision == Decision::NotApplicable
+                && expanded.verdict == Some(Decision::Deny)
+        }
+        _ => false,
+    }))
 }
 
 // Whether the library does with the case what the second expander does, and not what that one gives for the shortcut.
@@ -147,63 +135,27 @@ fn catches(heap: Global, case: &Case, shortcut: &Case) -> Result<bool, AllocErro
 
 // One bad reference would silence the good ones.
 pub fn catches_silence(heap: Global) -> Result<bool, AllocError> {
-    let right = case(
-        heap,
-        &BAD_REFERENCE,
-        TreeKind::Paths,
-        &NO_NODES,
-        PointKind::Grants,
-        &NO_LINES,
-    )?;
-    let wrong = case(
-        heap,
-        &BAD_ALONE,
-        TreeKind::Paths,
-        &NO_NODES,
-        PointKind::Grants,
-        &NO_LINES,
-    )?;
+    let tree = paths(heap, &NO_NODES)?;
+    let right = case(heap, &BAD_REFERENCE, tree, grants(heap, &NO_LINES)?)?;
+    let tree = paths(heap, &NO_NODES)?;
+    let wrong = case(heap, &BAD_ALONE, tree, grants(heap, &NO_LINES)?)?;
     catches(heap, &right, &wrong)
 }
 
 // Descent would be read off a common beginning of paths.
 pub fn catches_beginnings(heap: Global) -> Result<bool, AllocError> {
-    let right = case(
-        heap,
-        &BELOW_N,
-        TreeKind::Paths,
-        &PATHS,
-        PointKind::Grants,
-        &NO_LINES,
-    )?;
-    let wrong = case(
-        heap,
-        &BELOW_N,
-        TreeKind::Linked,
-        &BEGINNINGS,
-        PointKind::Grants,
-        &NO_LINES,
-    )?;
+    let tree = paths(heap, &PATHS)?;
+    let right = case(heap, &BELOW_N, tree, grants(heap, &NO_LINES)?)?;
+    let tree = linked(heap, &BEGINNINGS)?;
+    let wrong = case(heap, &BELOW_N, tree, grants(heap, &NO_LINES)?)?;
     catches(heap, &right, &wrong)
 }
 
 // A rule would stop at its first Indeterminate condition though a later one is false.
 pub fn catches_stopping(heap: Global) -> Result<bool, AllocError> {
-    let right = case(
-        heap,
-        &TWO_SUBJECTS,
-        TreeKind::Paths,
-        &NO_NODES,
-        PointKind::Rules,
-        &UNKNOWN_THEN_FALSE,
-    )?;
-    let wrong = case(
-        heap,
-        &TWO_SUBJECTS,
-        TreeKind::Paths,
-        &NO_NODES,
-        PointKind::Rules,
-        &UNKNOWN_ALONE,
-    )?;
+    let tree = paths(heap, &NO_NODES)?;
+    let right = case(heap, &TWO_SUBJECTS, tree, rules(heap, &UNKNOWN_THEN_FALSE)?)?;
+    let tree = paths(heap, &NO_NODES)?;
+    let wrong = case(heap, &TWO_SUBJECTS, tree, rules(heap, &UNKNOWN_ALONE)?)?;
     catches(heap, &right, &wrong)
 }

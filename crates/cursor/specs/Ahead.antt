@@ -8,11 +8,11 @@ use Rattle.model.specs.Tree.{Tree, Extent, reached}
 use Rattle.model.specs.Rows.{Listed, listings, choice_spots, spots_from, fault_spot, single_spot, node_spot, Spot}
 use Rattle.tree.specs.Reached.{extent_of, nodes_reached}
 use Rattle.single.specs.Numbers.{past}
+use Rattle.expansion.specs.declared.asked.Exploration.{Exploration}
 use Rattle.expansion.specs.Few.{held}
 use Rattle.expansion.specs.Listed.{listed_of}
 use Rattle.expansion.specs.Choice.{positive, after_choice}
 use Rattle.cursor.specs.declared.cursor.Cursor.{Cursor}
-use Rattle.cursor.specs.declared.cursor.Exploration.{Exploration}
 use Rattle.cursor.specs.declared.cursor.Stand.{Stand}
 use Rattle.cursor.specs.declared.cursor.Stand.TheVariants.{Ended, UnknownTag, Fault, Itself, Node}
 use Rattle.cursor.specs.declared.spot.Basis.{Basis}

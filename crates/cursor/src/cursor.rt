@@ -1,17 +1,10 @@
+use expansion::asked::Exploration;
 use expansion::few::Few;
 use model::decision::Cause;
-use tree::extent::Extent;
 use tree::reach::Reach;
 
-// What the nodes of a reach were explored for.
-#[derive(Clone, Copy, PartialEq)]
-pub struct Exploration {
-    pub extent: Extent,
-    pub node: usize,
-}
-
 // Before which row of a reference a cursor stands.
-#[derive(Clone, Copy)]
+#[derive(Clone, Copy, Debug, PartialEq)]
 pub enum Stand {
     // Past the last row.
     Ended,

@@ -6,23 +6,22 @@ ghost use Rattle.tree.specs.Reached.{extent_of};
 ghost use Rattle.request.specs.Place.{content_of};
 ghost use Rattle.cursor.specs.Ahead.{spot_in, Explored, Over, Before, Unmoved, Reaches, Settles, Enters, Leaves, Advances, Tells};
 
-use crate::cursor::{Cursor, Exploration, Stand};
+use crate::cursor::{Cursor, Stand};
 use crate::spot::{Basis, Spot};
-use expansion::asked::Scope;
+use expansion::asked::Exploration;
 use expansion::categories::widths;
 use expansion::choice::{first, next};
 use expansion::chosen::{chosen, resource};
 use expansion::few::Few;
 use expansion::list::list;
-use expansion::listing::Listing;
 use expansion::scope::scope;
 use model::decision::Cause;
 use request::request::Request;
 use std::alloc::{AllocError, Global};
 use tree::Tree;
-use tree::extent::Extent;
 use tree::reach::Reach;
 
+// Request and tree are handed in with each call and no struct of both: their owner lends them elsewhere between calls.
 impl Cursor {
     // A cursor with no row ahead. Reserves what any tree can need; only this call can want memory.
     pub fn new(heap: Global) -> Result<Cursor, AllocError>
@@ -41,17 +40,16 @@ impl Cursor {
         })
     }
 
-    // The nodes reached are those that links lead to from this one; what is there already is not explored again.
-    fn explore<T: Tree>(&mut self, tree: &T, extent: Extent, node: usize)
-        ensures reaches { Explored (T.meaning tree.now) self.old → Reaches (T.meaning tree.now) (extent_of extent) node self.new }
+    // The nodes reached are those that links lead to from the wanted one; what is there already is not explored again.
+    fn explore<T: Tree>(&mut self, tree: &T, wanted: Exploration)
+        ensures reaches { Explored (T.meaning tree.now) self.old → Reaches (T.meaning tree.now) (extent_of wanted.extent) wanted.node self.new }
         ensures unmoved { Unmoved self.old self.new }
         ensures chosen { self.new.chosen ≡ self.old.chosen }
     {
-        let wanted = Exploration { extent, node };
         if self.explored == Some(wanted) {
             return;
         }
-        self.reach.search(tree, node, extent);
+        self.reach.search(tree, wanted.node, wanted.extent);
         self.explored = Some(wanted);
     }
 
@@ -64,11 +62,11 @@ impl Cursor {
             self.stand = Stand::Itself;
             return;
         };
-        match scope(request, element as usize, tree) {
-            Scope::Faulty(cause) => self.stand = Stand::Fault(cause, element),
-            Scope::Itself => self.stand = Stand::Itself,
-            Scope::Below(extent, node) => {
-                self.explore(tree, extent, node);
+        match scope(request, usize::from(element), tree) {
+            Err(cause) => self.stand = Stand::Fault(cause, element),
+            Ok(None) => self.stand = Stand::Itself,
+            Ok(Some(wanted)) => {
+                self.explore(tree, wanted);
                 self.stand = Stand::Node(0);
             }
         }
@@ -79,13 +77,10 @@ impl Cursor {
         ensures { Enters (T.meaning tree.now) (content_of request.now) reference self.old self.new }
     {
         self.reference = reference;
-        let Some(listing) = list(request, reference) else {
-            self.stand = Stand::Ended;
-            return;
-        };
-        match listing {
-            Listing::Unknown(position) => self.stand = Stand::UnknownTag(position),
-            Listing::Lists(listed) => {
+        match list(request, reference) {
+            None => self.stand = Stand::Ended,
+            Some(Err(unknown)) => self.stand = Stand::UnknownTag(unknown.position),
+            Some(Ok(listed)) => {
                 self.listed = listed;
                 self.widths = widths(request, &self.listed);
                 self.choice = first(&self.widths);
@@ -162,11 +157,8 @@ impl Cursor {
             }
             Stand::Itself => Some(self.in_choice(None, Basis::Single(self.chosen))),
             Stand::Node(place) => {
-                let nodes = self.reach.nodes();
-                if place >= nodes.len() {
-                    return None;
-                }
-                Some(self.in_choice(Some(nodes[place].node), Basis::Single(self.chosen)))
+                let reached = self.reach.nodes().get(place)?;
+                Some(self.in_choice(Some(reached.node), Basis::Single(self.chosen)))
             }
         }
     }

@@ -15,6 +15,7 @@ pub trait DecisionPoint {
     // Its answers keep the status rule and the range of places.
     ghost fits: { (point : Self) → PointFits (answer point) };
 
+    // Three plain values, which is the project's form for an answer: the decision, its status, and the place of what decided.
     fn decide(&self, request: &SingleRequest<'_, '_, '_>) -> (Decision, Status, u16)
         ensures { answered result ≡ answer self.now (content request.now) };
 }

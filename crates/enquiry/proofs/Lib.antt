@@ -3,3 +3,4 @@ pub mod Moves
 pub mod Standing
 pub mod Runs
 pub mod Working
+pub mod Stepped

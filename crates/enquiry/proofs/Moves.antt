@@ -1,5 +1,5 @@
 -- What each call answers where so many rows have been handed out, and how an enquiry then stands. Assumes nothing.
-use Rattle.std.proofs.Common.{◌≡◌, ℕ, zero, suc, ◌<◌, ◌≤◌, Bool, true, false, ◌&&◌, List, [], ◌∷◌, ◌++◌, length, take, drop, is_some, Some, None, Ok, Err, Option, Result, sym, refl, ap, ◌∙◌, arith}
+use Rattle.std.proofs.Common.{◌≡◌, ℕ, zero, suc, ◌<◌, ◌≤◌, Bool, true, false, ◌&&◌, List, [], ◌∷◌, ◌++◌, length, take, drop, is_some, Some, None, Option, sym, refl, ap, ◌∙◌, arith}
 use Rattle.std.proofs.lemmas.List.{length-map, take_all}
 use Rattle.std.proofs.lemmas.Bool.{lt-ltb, le-ltb}
 use Rattle.model.specs.declared.call.CallRefusal.TheVariants.{Ended}
@@ -11,15 +11,8 @@ use Rattle.model.specs.Rows.{Spot, spots, Row, row_at_spot, rows}
 use Rattle.model.specs.Law as law
 use Rattle.model.specs.Law.{Call, Reply, is_permitting, all_permit, step_reply, is_left, reply, after}
 use Rattle.model.proofs.Positions.{nth_map, nth_below, nth_past}
-use Rattle.single.specs.declared.short.TooShort.{TooShort}
-use Rattle.single.specs.Written.{Writes}
 use Rattle.cursor.specs.Ahead.{next_of, later}
 use Rattle.cursor.proofs.Rows.{nth_some}
-use Rattle.enquiry.specs.Calls.{Left}
-
-pub written_left : (bytes before : List ℕ) (r : Result ℕ TooShort) (after : List ℕ) → Writes bytes before r after → Left r before after
-written_left bytes before (Ok n) after w = tt
-written_left bytes before (Err e) after w = w.2
 
 module _ {A : Type 0} where
   pub none_of : (o : Option A) → is_some o ≡ false → o ≡ None

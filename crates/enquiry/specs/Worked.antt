@@ -1,5 +1,6 @@
 -- What working a list of calls answers. Assumes nothing.
-use Rattle.std.specs.Prelude.{◌≡◌, ℕ, List, [], ◌∷◌, map, replicate, vec_items}
+use Rattle.std.specs.Prelude.{◌≡◌, ℕ, List, [], ◌∷◌, map, replicate, vec_items, Ok, Err, Result}
+use Rattle.model.specs.declared.call.CallRefusal.{CallRefusal}
 use Rattle.model.specs.Content.{Request}
 use Rattle.model.specs.Tree.{Tree}
 use Rattle.model.specs.Points.{Point}
@@ -10,7 +11,7 @@ use Rattle.enquiry.specs.declared.enquiry.Enquiry.{Enquiry}
 use Rattle.enquiry.specs.declared.work.Call.{Call}
 use Rattle.enquiry.specs.declared.work.Call.TheVariants.{Step, Show, Rewind, Verdict}
 use Rattle.enquiry.specs.declared.work.Reply.{Reply}
-use Rattle.enquiry.specs.declared.work.Reply.TheVariants.{Row, Wrote, Rewound, Judged, Refused}
+use Rattle.enquiry.specs.declared.work.Reply.TheVariants.{Row, Wrote, Rewound, Judged}
 use Rattle.enquiry.specs.Rows.{row_of}
 use Rattle.enquiry.specs.Calls.{content, Standing}
 use Rattle.enquiry.specs.Runs.{Run}
@@ -26,13 +27,17 @@ reply_of (Row r) = law.row (row_of r)
 reply_of (Wrote n buffer) = law.wrote n (vec_items buffer)
 reply_of Rewound = law.rewound
 reply_of (Judged d) = law.judged d
-reply_of (Refused refusal) = law.refuses refusal
+
+-- a reply, or why the call is refused
+abbrev pub answer_of : Result Reply CallRefusal → law.Reply
+answer_of (Ok r) = reply_of r
+answer_of (Err refusal) = law.refuses refusal
 
 abbrev pub calls_of : List Call → List law.Call
 calls_of cs = map call_of cs
 
-abbrev pub replies_of : List Reply → List law.Reply
-replies_of rs = map reply_of rs
+abbrev pub replies_of : List (Result Reply CallRefusal) → List law.Reply
+replies_of rs = map answer_of rs
 
 -- the replies of the rules where k rows have been handed out, and how many have been after the calls
 module _ (q : Request) (tree : Tree) (point : Point) where

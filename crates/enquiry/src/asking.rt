@@ -1,9 +1,10 @@
-ghost use Rattle.std.specs.Prelude.{◌≡◌, ◌≤◌, length};
-ghost use Rattle.model.specs.Law.{is_permitting as permits};
-ghost use Rattle.model.specs.Rows.{status_of_fault as status_of, single_request, row_at_spot};
+ghost use Rattle.std.specs.Prelude.{◌≡◌, ◌≤◌, length, Some};
+ghost use Rattle.std.specs.Option.{option_map};
+ghost use Rattle.model.specs.Rows.{single_request, row_at_spot};
 ghost use Rattle.decision.specs.Answered.{answered};
 ghost use Rattle.request.specs.Place.{content_of};
 ghost use Rattle.single.specs.Numbers.{past};
+ghost use Rattle.single.specs.Single.{content};
 ghost use Rattle.single.specs.Written.{bytes_for, Writes};
 ghost use Rattle.expansion.specs.Few.{held};
 ghost use Rattle.expansion.specs.Listed.{listed_of};
@@ -19,7 +20,25 @@ use expansion::put::{put, put_reached};
 use model::decision::{Cause, Decision, Status};
 use request::request::Request;
 use single::short::TooShort;
+use single::single::SingleRequest;
 use tree::Tree;
+
+// The single request of the chosen elements, for a node or for none. There is none where a number names no element,
+// and no cursor over the request has such a number.
+fn single_of<'s, T: Tree>(
+    request: &'s Request<'s>,
+    chosen: &Few,
+    node: Option<usize>,
+    tree: &'s T,
+) -> Option<SingleRequest<'s, 's, 's>>
+    ensures { past (held chosen.now) ≤ length (content_of request.now).elements → option_map content result ≡ Some (single_request (T.meaning tree.now) node (listed_of (content_of request.now).elements (held chosen.now))) }
+{
+    let single = put(request, chosen)?;
+    match node {
+        Some(node) => Some(put_reached(&single, tree, node)),
+        None => Some(single),
+    }
+}
 
 // The decision point's answer to the chosen elements, for a node or for none.
 fn decide<T: Tree, P: DecisionPoint>(
@@ -31,22 +50,9 @@ fn decide<T: Tree, P: DecisionPoint>(
 ) -> (Decision, Status, u16)
     ensures { past (held chosen.now) ≤ length (content_of request.now).elements → answered result ≡ P.answer point.now (single_request (T.meaning tree.now) node (listed_of (content_of request.now).elements (held chosen.now))) }
 {
-    let Some(single) = put(request, chosen) else {
-        // A number that names no element: no cursor over the request has one.
-        return (Decision::Indeterminate, Status::ProcessingError, 0);
-    };
-    match node {
-        Some(node) => point.decide(&put_reached(&single, tree, node)),
-        None => point.decide(&single),
-    }
-}
-
-fn fault_status(cause: Cause) -> Status
-    ensures { result ≡ status_of cause }
-{
-    match cause {
-        Cause::UnknownNode => Status::ProcessingError,
-        _ => Status::SyntaxError,
+    match single_of(request, chosen, node, tree) {
+        Some(single) => point.decide(&single),
+        None => (Decision::Indeterminate, Status::ProcessingError, 0),
     }
 }
 
@@ -59,22 +65,28 @@ pub(crate) fn row_at<T: Tree, P: DecisionPoint>(
 ) -> Row
     ensures { BasisNames (content_of request.now).elements spot.basis → row_of result ≡ row_at_spot (P.answer point.now) (spot_of (T.meaning tree.now) (content_of request.now).elements spot) }
 {
-    match spot.basis {
+    let Spot {
+        reference,
+        choice,
+        node,
+        basis,
+    } = spot;
+    match basis {
         Basis::Fault(cause, place) => Row {
-            reference: spot.reference,
-            choice: spot.choice,
-            node: spot.node,
+            reference,
+            choice,
+            node,
             decision: Decision::Indeterminate,
-            status: fault_status(cause),
+            status: Status::from(cause),
             cause: Some(cause),
             place: u16::from(place),
         },
         Basis::Single(chosen) => {
-            let (decision, status, place) = decide(request, &chosen, spot.node, tree, point);
+            let (decision, status, place) = decide(request, &chosen, node, tree, point);
             Row {
-                reference: spot.reference,
-                choice: spot.choice,
-                node: spot.node,
+                reference,
+                choice,
+                node,
                 decision,
                 status,
                 cause: None,
@@ -95,17 +107,8 @@ pub(crate) fn write<T: Tree>(
     ensures writes { past (held chosen.now) ≤ length (content_of request.now).elements → Writes (bytes_for (single_request (T.meaning tree.now) node (listed_of (content_of request.now).elements (held chosen.now)))) buffer.old result buffer.new }
     ensures left { Left result buffer.old buffer.new }
 {
-    let Some(single) = put(request, chosen) else {
-        return Err(TooShort { needed: 0 });
-    };
-    match node {
-        Some(node) => put_reached(&single, tree, node).write(buffer),
-        None => single.write(buffer),
+    match single_of(request, chosen, node, tree) {
+        Some(single) => single.write(buffer),
+        None => Err(TooShort { needed: 0 }),
     }
-}
-
-pub(crate) fn is_permit(decision: Decision) -> bool
-    ensures { result ≡ permits decision }
-{
-    matches!(decision, Decision::Permit)
 }

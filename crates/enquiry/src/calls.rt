@@ -10,7 +10,7 @@ ghost use Rattle.request.specs.Refused.{in_request_fault};
 ghost use Rattle.enquiry.specs.Calls.{content, Source, Starts, Opens, Works, step_told, show_told, verdict_told, Left};
 ghost use Rattle.enquiry.specs.Runs.{Lawful, Law};
 
-use crate::asking::{is_permit, row_at, write};
+use crate::asking::{row_at, write};
 use crate::enquiry::Enquiry;
 use crate::row::Row;
 use cursor::cursor::Cursor;
@@ -77,13 +77,11 @@ impl<'a> Enquiry<'a> {
     ) -> Result<Row, CallRefusal>
         ensures { Works (T.meaning tree.now) (P.answer point.now) self.old stepping (step_told result) self.new }
     {
-        let Some(spot) = self.cursor.spot() else {
-            return Err(CallRefusal::Ended);
-        };
+        let spot = self.cursor.spot().ok_or(CallRefusal::Ended)?;
         let row = row_at(&self.request, spot, tree, point);
         self.cursor.advance(&self.request, tree);
         self.handed = self.handed.saturating_add(1);
-        self.permitted &= is_permit(row.decision);
+        self.permitted &= row.decision == Decision::Permit;
         Ok(row)
     }
 
@@ -92,16 +90,13 @@ impl<'a> Enquiry<'a> {
         ensures shows { (point : Point) → Works (T.meaning tree.now) point self.now (showing buffer.old) (show_told result buffer.new) self.now }
         ensures left { Left result buffer.old buffer.new }
     {
-        let Some(spot) = self.cursor.spot() else {
-            return Err(CallRefusal::Ended);
-        };
+        let spot = self.cursor.spot().ok_or(CallRefusal::Ended)?;
         let Basis::Single(chosen) = spot.basis else {
             return Err(CallRefusal::FaultRow);
         };
-        match write(&self.request, &chosen, spot.node, tree, buffer) {
-            Ok(length) => Ok(length),
-            Err(short) => Err(CallRefusal::TooShort(short.needed)),
-        }
+        write(&self.request, &chosen, spot.node, tree, buffer).map_err(
+            |short| CallRefusal::TooShort(short.needed),
+        )
     }
 
     // Stands before the first row again.

@@ -2,7 +2,7 @@ ghost use Rattle.std.specs.Prelude.{replicate, IfOk};
 ghost use Rattle.model.specs.Law.{show as showing};
 ghost use Rattle.model.specs.Points.{Point};
 ghost use Rattle.enquiry.specs.Calls.{Works};
-ghost use Rattle.enquiry.specs.Worked.{call_of, reply_of, calls_of, replies_of, Worked};
+ghost use Rattle.enquiry.specs.Worked.{call_of, answer_of, calls_of, replies_of, Worked};
 
 use crate::enquiry::Enquiry;
 use crate::row::Row;
@@ -13,7 +13,7 @@ use std::alloc::{AllocError, Global};
 use tree::Tree;
 
 // A call of an enquiry, to be made.
-#[derive(Clone, Copy)]
+#[derive(Clone, Copy, Debug, PartialEq)]
 pub enum Call {
     Step,
     // Into a buffer of so many zeros.
@@ -22,7 +22,7 @@ pub enum Call {
     Verdict,
 }
 
-// What a call was answered.
+// What a call that is not refused was answered.
 #[derive(Drop)]
 pub enum Reply {
     Row(Row),
@@ -30,19 +30,21 @@ pub enum Reply {
     Wrote(usize, Vec<u8>),
     Rewound,
     Judged(Decision),
-    Refused(CallRefusal),
 }
 
 impl<'a> Enquiry<'a> {
     // Shows into a buffer of its own, of so many zeros.
-    fn show_zeros<T: Tree>(&self, heap: Global, tree: &T, size: usize) -> Result<Reply, AllocError>
-        ensures { IfOk result (λ reply. (point : Point) → Works (T.meaning tree.now) point self.now (showing (replicate size 0)) (reply_of reply) self.now) }
+    fn show_zeros<T: Tree>(
+        &self,
+        heap: Global,
+        tree: &T,
+        size: usize,
+    ) -> Result<Result<Reply, CallRefusal>, AllocError>
+        ensures { IfOk result (λ answer. (point : Point) → Works (T.meaning tree.now) point self.now (showing (replicate size 0)) (answer_of answer) self.now) }
     {
         let mut buffer = vec![in heap; 0; size]?;
-        match self.show(tree, buffer.as_mut_slice()) {
-            Ok(length) => Ok(Reply::Wrote(length, buffer)),
-            Err(refusal) => Ok(Reply::Refused(refusal)),
-        }
+        let shown = self.show(tree, buffer.as_mut_slice());
+        Ok(shown.map(|length| Reply::Wrote(length, buffer)))
     }
 
     fn answer<T: Tree, P: DecisionPoint>(
@@ -51,26 +53,17 @@ impl<'a> Enquiry<'a> {
         tree: &T,
         point: &P,
         call: Call,
-    ) -> Result<Reply, AllocError>
-        ensures { IfOk result (λ reply. Works (T.meaning tree.now) (P.answer point.now) self.old (call_of call) (reply_of reply) self.new) }
+    ) -> Result<Result<Reply, CallRefusal>, AllocError>
+        ensures { IfOk result (λ answer. Works (T.meaning tree.now) (P.answer point.now) self.old (call_of call) (answer_of answer) self.new) }
     {
         match call {
-            Call::Step => match self.step(tree, point) {
-                Ok(row) => Ok(Reply::Row(row)),
-                Err(refusal) => Ok(Reply::Refused(refusal)),
-            },
-            Call::Show(size) => {
-                let reply = self.show_zeros(heap, tree, size)?;
-                Ok(reply)
-            }
+            Call::Step => Ok(self.step(tree, point).map(Reply::Row)),
+            Call::Show(size) => self.show_zeros(heap, tree, size),
             Call::Rewind => {
                 self.rewind(tree);
-                Ok(Reply::Rewound)
+                Ok(Ok(Reply::Rewound))
             }
-            Call::Verdict => match self.verdict() {
-                Ok(decision) => Ok(Reply::Judged(decision)),
-                Err(refusal) => Ok(Reply::Refused(refusal)),
-            },
+            Call::Verdict => Ok(self.verdict().map(Reply::Judged)),
         }
     }
 
@@ -81,7 +74,7 @@ impl<'a> Enquiry<'a> {
         tree: &T,
         point: &P,
         calls: &[Call],
-    ) -> Result<Vec<Reply>, AllocError>
+    ) -> Result<Vec<Result<Reply, CallRefusal>>, AllocError>
         ensures { IfOk result (λ replies. Worked (T.meaning tree.now) (P.answer point.now) self.old (calls_of calls.now) (replies_of replies.items) self.new) }
     {
         let mut replies = Vec::new(heap);

@@ -1,16 +1,10 @@
 use crate::content::Element;
-use crate::error::ExpandError;
 use crate::read::request::tagged;
-use std::alloc::Global;
+use std::alloc::{AllocError, Global};
 
 // The position of the first tag that no element carries.
 pub(crate) fn first_unknown(elements: &[Element], tags: &[u8]) -> Option<usize> {
-    for position in 0..tags.len() {
-        if tagged(elements, tags[position]).is_none() {
-            return Some(position);
-        }
-    }
-    None
+    tags.iter().position(|tag| tagged(elements, *tag).is_none())
 }
 
 // The numbers of the elements that tags name.
@@ -18,23 +12,15 @@ pub(crate) fn listed(
     heap: Global,
     elements: &[Element],
     tags: &[u8],
-) -> Result<Vec<usize>, ExpandError> {
-    let mut list = Vec::new(heap);
-    for tag in tags {
-        if let Some(number) = tagged(elements, *tag) {
-            list.push(number)?;
-        }
-    }
-    Ok(list)
+) -> Result<Vec<usize>, AllocError> {
+    tags.iter()
+        .filter_map(|tag| tagged(elements, *tag))
+        .collect(heap)
 }
 
 // The numbers of all elements.
-pub(crate) fn all(heap: Global, elements: &[Element]) -> Result<Vec<usize>, ExpandError> {
-    let mut list = Vec::new(heap);
-    for number in 0..elements.len() {
-        list.push(number)?;
-    }
-    Ok(list)
+pub(crate) fn all(heap: Global, elements: &[Element]) -> Result<Vec<usize>, AllocError> {
+    (0..elements.len()).collect(heap)
 }
 
 // For each category, in the order of first appearance, the positions in the list that have it.
@@ -42,21 +28,19 @@ pub(crate) fn groups(
     heap: Global,
     elements: &[Element],
     list: &[usize],
-) -> Result<Vec<Vec<usize>>, ExpandError> {
+) -> Result<Vec<Vec<usize>>, AllocError> {
     let mut categories = Vec::new(heap);
-    for number in list {
-        if let Some(element) = elements.get(*number)
-            && !categories.as_slice().contains(&element.category)
-        {
+    for element in list.iter().filter_map(|number| elements.get(*number)) {
+        if !categories.contains(&element.category) {
             categories.push(element.category)?;
         }
     }
-    let mut groups = Vec::new(heap);
-    for category in categories.as_slice() {
-        let group = group(heap, elements, list, *category)?;
-        groups.push(group)?;
-    }
-    Ok(groups)
+    categories
+        .iter()
+        .map(|category| -> Result<Vec<usize>, AllocError> {
+            group(heap, elements, list, *category)
+        })
+        .try_collect(heap)
 }
 
 fn group(
@@ -64,25 +48,23 @@ fn group(
     elements: &[Element],
     list: &[usize],
     category: u8,
-) -> Result<Vec<usize>, ExpandError> {
-    let mut positions = Vec::new(heap);
-    for position in 0..list.len() {
-        if let Some(element) = elements.get(list[position])
-            && element.category == category
-        {
-            positions.push(position)?;
-        }
-    }
-    Ok(positions)
+) -> Result<Vec<usize>, AllocError> {
+    list.iter()
+        .enumerate()
+        .filter(|(_, number)| {
+            elements
+                .get(**number)
+                .is_some_and(|element| element.category == category)
+        })
+        .map(|(position, _)| position)
+        .collect(heap)
 }
 
 // The product of the groups: one number in each, the last one moves first.
-pub(crate) fn product(heap: Global, groups: &[Vec<usize>]) -> Result<Vec<Vec<usize>>, ExpandError> {
-    let mut choices = Vec::new(heap);
-    choices.push(Vec::new(heap))?;
+pub(crate) fn product(heap: Global, groups: &[Vec<usize>]) -> Result<Vec<Vec<usize>>, AllocError> {
+    let mut choices = vec![in heap; Vec::new(heap)]?;
     for group in groups {
-        let longer = times(heap, choices.as_slice(), group.len())?;
-        choices = longer;
+        choices = times(heap, choices.as_slice(), group.len())?;
     }
     Ok(choices)
 }
@@ -92,7 +74,7 @@ fn times(
     heap: Global,
     choices: &[Vec<usize>],
     width: usize,
-) -> Result<Vec<Vec<usize>>, ExpandError> {
+) -> Result<Vec<Vec<usize>>, AllocError> {
     let mut longer = Vec::new(heap);
     for choice in choices {
         for number in 0..width {
@@ -110,24 +92,17 @@ pub(crate) fn taken(
     list: &[usize],
     groups: &[Vec<usize>],
     choice: &[usize],
-) -> Result<Vec<usize>, ExpandError> {
-    let mut numbers = Vec::new(heap);
-    for position in 0..list.len() {
-        if takes(groups, choice, position) {
-            numbers.push(list[position])?;
-        }
-    }
-    Ok(numbers)
+) -> Result<Vec<usize>, AllocError> {
+    list.iter()
+        .enumerate()
+        .filter(|(position, _)| takes(groups, choice, *position))
+        .map(|(_, number)| *number)
+        .collect(heap)
 }
 
 fn takes(groups: &[Vec<usize>], choice: &[usize], position: usize) -> bool {
-    for category in 0..groups.len() {
-        if category < choice.len() {
-            let number = choice[category];
-            if number < groups[category].len() && groups[category][number] == position {
-                return true;
-            }
-        }
-    }
-    false
+    groups
+        .iter()
+        .zip(choice)
+        .any(|(group, number)| group.get(*number) == Some(&position))
 }

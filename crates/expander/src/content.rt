@@ -27,7 +27,7 @@ pub struct Asked {
 }
 
 // A link leads from one node to another, by number.
-#[derive(Clone, Copy)]
+#[derive(Clone, Copy, PartialEq)]
 pub struct Link {
     pub parent: usize,
     pub child: usize,

@@ -1,7 +1,7 @@
 use crate::content::{Attribute, Condition, Element, Line, Point, Rule};
 use model::decision::{Decision, Status};
 
-#[derive(Clone, Copy)]
+#[derive(Clone, Copy, Debug, PartialEq)]
 pub struct Answer {
     pub decision: Decision,
     pub status: Status,
@@ -9,12 +9,21 @@ pub struct Answer {
 }
 
 // What a condition, or a rule, comes to.
-#[derive(Clone, Copy)]
+#[derive(Clone, Copy, Debug, PartialEq)]
 enum Truth {
     Met,
     Unmet,
     Unknown,
 }
+
+// The category of an element and the id of an attribute that grants compare.
+type Name = (u8, u8);
+
+const SUBJECT: Name = (2, 3);
+
+const ACTION: Name = (3, 4);
+
+const RESOURCE: Name = (1, 1);
 
 pub(crate) fn decide(point: &Point, single: &[Element]) -> Answer {
     match point {
@@ -23,32 +32,28 @@ pub(crate) fn decide(point: &Point, single: &[Element]) -> Answer {
     }
 }
 
+impl Answer {
+    fn new(decision: Decision, status: Status, place: usize) -> Answer {
+        Answer {
+            decision,
+            status,
+            place,
+        }
+    }
+}
+
 // The first rule that is not unmet decides.
 fn by_rules(rules: &[Rule], single: &[Element]) -> Answer {
-    for place in 0..rules.len() {
-        match all_met(rules[place].conditions.as_slice(), single) {
-            Truth::Met => {
-                return Answer {
-                    decision: rules[place].effect,
-                    status: Status::Ok,
-                    place,
-                };
-            }
+    for (place, rule) in rules.iter().enumerate() {
+        match all_met(rule.conditions.as_slice(), single) {
+            Truth::Met => return Answer::new(rule.effect, Status::Ok, place),
             Truth::Unknown => {
-                return Answer {
-                    decision: Decision::Indeterminate,
-                    status: Status::MissingAttribute,
-                    place,
-                };
+                return Answer::new(Decision::Indeterminate, Status::MissingAttribute, place);
             }
             Truth::Unmet => {}
         }
     }
-    Answer {
-        decision: Decision::NotApplicable,
-        status: Status::Ok,
-        place: 0,
-    }
+    Answer::new(Decision::NotApplicable, Status::Ok, 0)
 }
 
 // One that is unmet settles it, wherever it stands.
@@ -65,20 +70,17 @@ fn all_met(conditions: &[Condition], single: &[Element]) -> Truth {
 }
 
 fn met(condition: &Condition, single: &[Element]) -> Truth {
+    let wanted = &condition.attribute;
     let mut present = false;
-    for element in single {
-        if element.category == condition.category {
-            for attribute in element.attributes.as_slice() {
-                if compares(&condition.attribute, attribute) {
-                    present = true;
-                    if attribute.value.as_slice() == condition.attribute.value.as_slice() {
-                        return Truth::Met;
-                    }
-                }
+    for element in single.iter().filter(|e| e.category == condition.category) {
+        for attribute in element.attributes.iter().filter(|a| compares(wanted, *a)) {
+            present = true;
+            if attribute.value == wanted.value {
+                return Truth::Met;
             }
         }
     }
-    if condition.attribute.marked && !present {
+    if wanted.marked && !present {
         Truth::Unknown
     } else {
         Truth::Unmet
@@ -87,89 +89,53 @@ fn met(condition: &Condition, single: &[Element]) -> Truth {
 
 // Whether a condition's attribute is one to compare with.
 fn compares(wanted: &Attribute, attribute: &Attribute) -> bool {
-    if attribute.id != wanted.id || attribute.kind != wanted.kind {
-        return false;
-    }
-    match &wanted.issuer {
-        None => true,
-        Some(wanted) => match &attribute.issuer {
-            None => false,
-            Some(issuer) => issuer.as_slice() == wanted.as_slice(),
-        },
-    }
+    attribute.id == wanted.id
+        && attribute.kind == wanted.kind
+        && (wanted.issuer.is_none() || attribute.issuer == wanted.issuer)
 }
 
 fn by_grants(lines: &[Line], single: &[Element]) -> Answer {
-    let subjects = number_of(single, 2, 3);
-    let actions = number_of(single, 3, 4);
-    let resources = number_of(single, 1, 1);
-    if subjects == 0 || actions == 0 || resources == 0 {
-        return Answer {
-            decision: Decision::NotApplicable,
-            status: Status::Ok,
-            place: 0,
-        };
+    let numbers = [SUBJECT, ACTION, RESOURCE].map(|name| number_of(single, name));
+    if numbers.contains(&0) {
+        return Answer::new(Decision::NotApplicable, Status::Ok, 0);
     }
-    if subjects > 1 || actions > 1 || resources > 1 {
-        return Answer {
-            decision: Decision::Indeterminate,
-            status: Status::ProcessingError,
-            place: 0,
-        };
+    if numbers.iter().any(|number| *number > 1) {
+        return Answer::new(Decision::Indeterminate, Status::ProcessingError, 0);
     }
-    for place in 0..lines.len() {
-        if granted(&lines[place], single) {
-            return Answer {
-                decision: Decision::Permit,
-                status: Status::Ok,
-                place,
-            };
-        }
-    }
-    Answer {
-        decision: Decision::Deny,
-        status: Status::Ok,
-        place: 0,
+    match lines.iter().position(|line| granted(line, single)) {
+        Some(place) => Answer::new(Decision::Permit, Status::Ok, place),
+        None => Answer::new(Decision::Deny, Status::Ok, 0),
     }
 }
 
 fn granted(line: &Line, single: &[Element]) -> bool {
-    has(single, 2, 3, line.subject.as_slice())
-        && has(single, 3, 4, line.action.as_slice())
-        && has(single, 1, 1, line.resource.as_slice())
+    has(single, SUBJECT, &line.subject)
+        && has(single, ACTION, &line.action)
+        && has(single, RESOURCE, &line.resource)
 }
 
 // How many attributes of an id the elements of a category have.
-fn number_of(single: &[Element], category: u8, id: u8) -> usize {
-    let mut number = 0usize;
-    for element in single {
-        if element.category == category {
-            number = number.saturating_add(count(element.attributes.as_slice(), id));
-        }
-    }
-    number
+fn number_of(single: &[Element], (category, id): Name) -> usize {
+    single
+        .iter()
+        .filter(|element| element.category == category)
+        .fold(0usize, |number, element| {
+            number.saturating_add(count(element.attributes.as_slice(), id))
+        })
 }
 
 pub(crate) fn count(attributes: &[Attribute], id: u8) -> usize {
-    let mut number = 0usize;
-    for attribute in attributes {
-        if attribute.id == id {
-            number = number.saturating_add(1);
-        }
-    }
-    number
+    attributes
+        .iter()
+        .filter(|attribute| attribute.id == id)
+        .count()
 }
 
 // Whether one of them has a value.
-fn has(single: &[Element], category: u8, id: u8, value: &[u8]) -> bool {
-    for element in single {
-        if element.category == category {
-            for attribute in element.attributes.as_slice() {
-                if attribute.id == id && attribute.value.as_slice() == value {
-                    return true;
-                }
-            }
-        }
-    }
-    false
+fn has(single: &[Element], (category, id): Name, value: &Vec<u8>) -> bool {
+    single
+        .iter()
+        .filter(|element| element.category == category)
+        .flat_map(|element| element.attributes.iter())
+        .any(|attribute| attribute.id == id && attribute.value == *value)
 }

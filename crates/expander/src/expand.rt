@@ -1,31 +1,34 @@
 use crate::choices::{all, first_unknown, groups, listed, product, taken};
-use crate::content::{Asked, Graph, Point};
+use crate::content::{Asked, Element, Graph, Point};
 use crate::decide::decide;
-use crate::error::{ExpandError, Unread, named};
-use crate::read::points::{read_grants, read_rules};
+use crate::error::ExpandError;
+use crate::read::points::read_point;
 use crate::read::request::read_request;
-use crate::read::trees::{read_linked, read_paths};
+use crate::read::trees::read_tree;
 use crate::row::{Expanded, OracleRow};
-use crate::scope::{Scoped, apply_scope};
+use crate::scope::{nodes, scope_of};
 use crate::single::{individual, written};
 use model::decision::{Cause, Decision, Status};
-use std::alloc::Global;
+use std::alloc::{AllocError, Global};
 
-#[derive(Clone, Copy)]
-pub enum TreeKind {
-    Linked,
-    Paths,
+// The bytes of a tree's file, which is of one of two kinds.
+#[derive(Debug, PartialEq, Drop)]
+pub enum TreeFile {
+    Linked(Vec<u8>),
+    Paths(Vec<u8>),
 }
 
-#[derive(Clone, Copy)]
-pub enum PointKind {
-    Rules,
-    Grants,
+// The same of a decision point's.
+#[derive(Debug, PartialEq, Drop)]
+pub enum PointFile {
+    Rules(Vec<u8>),
+    Grants(Vec<u8>),
 }
 
-// What was opened.
+// What was opened, and the heap that its rows are made in.
 #[derive(Drop)]
 struct World {
+    heap: Global,
     asked: Asked,
     graph: Graph,
     point: Point,
@@ -43,162 +46,108 @@ struct Choice {
 pub fn expand(
     heap: Global,
     request: &[u8],
-    tree: (TreeKind, &[u8]),
-    point: (PointKind, &[u8]),
+    tree: &TreeFile,
+    point: &PointFile,
 ) -> Result<Expanded, ExpandError> {
     let world = World {
-        asked: opened_request(heap, request)?,
-        graph: opened_tree(heap, tree.0, tree.1)?,
-        point: opened_point(heap, point.0, point.1)?,
+        heap,
+        asked: read_request(heap, request).map_err(|why| why.named(ExpandError::BadRequest))?,
+        graph: read_tree(heap, tree).map_err(|why| why.named(ExpandError::BadTree))?,
+        point: read_point(heap, point).map_err(|why| why.named(ExpandError::BadPoint))?,
     };
-    let rows = all_rows(heap, &world)?;
-    let verdict = if world.asked.combined {
-        Some(combined(rows.as_slice()))
-    } else {
-        None
-    };
+    let rows = world.rows()?;
+    let verdict = world.asked.combined.then_some(combined(rows.as_slice()));
     Ok(Expanded { rows, verdict })
 }
 
-fn opened_request(heap: Global, bytes: &[u8]) -> Result<Asked, ExpandError> {
-    match read_request(heap, bytes) {
-        Ok(asked) => Ok(asked),
-        Err(unread) => Err(named(unread, ExpandError::BadRequest)),
-    }
-}
-
-fn opened_tree(heap: Global, kind: TreeKind, bytes: &[u8]) -> Result<Graph, ExpandError> {
-    let graph = match kind {
-        TreeKind::Linked => read_linked(heap, bytes),
-        TreeKind::Paths => read_paths(heap, bytes),
-    };
-    match graph {
-        Ok(graph) => Ok(graph),
-        Err(unread) => Err(named(unread, ExpandError::BadTree)),
-    }
-}
-
-fn opened_point(heap: Global, kind: PointKind, bytes: &[u8]) -> Result<Point, ExpandError> {
-    match read_point(heap, kind, bytes) {
-        Ok(point) => Ok(point),
-        Err(unread) => Err(named(unread, ExpandError::BadPoint)),
-    }
-}
-
-fn read_point(heap: Global, kind: PointKind, bytes: &[u8]) -> Result<Point, Unread> {
-    match kind {
-        PointKind::Rules => Ok(Point::Rules(read_rules(heap, bytes)?)),
-        PointKind::Grants => Ok(Point::Grants(read_grants(heap, bytes)?)),
-    }
-}
-
-fn all_rows(heap: Global, world: &World) -> Result<Vec<OracleRow>, ExpandError> {
-    let mut rows = Vec::new(heap);
-    let elements = world.asked.elements.as_slice();
-    let references = world.asked.references.as_slice();
-    if references.is_empty() {
-        let list = all(heap, elements)?;
-        listed_rows(heap, world, 0, list.as_slice(), &mut rows)?;
-    }
-    for reference in 0..references.len() {
-        let tags = references[reference].as_slice();
-        match first_unknown(elements, tags) {
-            Some(position) => rows.push(fault(reference, None, Cause::UnknownTag, position))?,
-            None => {
-                let list = listed(heap, elements, tags)?;
-                listed_rows(heap, world, reference, list.as_slice(), &mut rows)?;
+impl World {
+    fn rows(&self) -> Result<Vec<OracleRow>, AllocError> {
+        let mut rows = Vec::new(self.heap);
+        let elements = self.asked.elements.as_slice();
+        if self.asked.references.is_empty() {
+            let list = all(self.heap, elements)?;
+            self.put_listed(0, list.as_slice(), &mut rows)?;
+        }
+        for (reference, tags) in self.asked.references.iter().enumerate() {
+            match first_unknown(elements, tags.as_slice()) {
+                Some(position) => rows.push(fault(reference, None, Cause::UnknownTag, position))?,
+                None => {
+                    let list = listed(self.heap, elements, tags.as_slice())?;
+                    self.put_listed(reference, list.as_slice(), &mut rows)?;
+                }
             }
         }
+        Ok(rows)
     }
-    Ok(rows)
-}
 
-// The rows of a reference that lists these elements.
-fn listed_rows(
-    heap: Global,
-    world: &World,
-    reference: usize,
-    list: &[usize],
-    rows: &mut Vec<OracleRow>,
-) -> Result<(), ExpandError> {
-    let groups = groups(heap, world.asked.elements.as_slice(), list)?;
-    let choices = product(heap, groups.as_slice())?;
-    for numbers in choices.as_slice() {
-        let choice = Choice {
-            reference,
-            numbers: Vec::from_slice(heap, numbers.as_slice())?,
-            taken: taken(heap, list, groups.as_slice(), numbers.as_slice())?,
+    // The rows of a reference that lists these elements.
+    fn put_listed(
+        &self,
+        reference: usize,
+        list: &[usize],
+        rows: &mut Vec<OracleRow>,
+    ) -> Result<(), AllocError> {
+        let groups = groups(self.heap, self.asked.elements.as_slice(), list)?;
+        for numbers in product(self.heap, groups.as_slice())? {
+            let taken = taken(self.heap, list, groups.as_slice(), numbers.as_slice())?;
+            let choice = Choice {
+                reference,
+                numbers,
+                taken,
+            };
+            self.put_choice(&choice, rows)?;
+        }
+        Ok(())
+    }
+
+    fn put_choice(&self, choice: &Choice, rows: &mut Vec<OracleRow>) -> Result<(), AllocError> {
+        let Some((number, resource)) = self.resource(choice) else {
+            rows.push(self.decided(choice, None)?)?;
+            return Ok(());
         };
-        choice_rows(heap, world, &choice, rows)?;
-    }
-    Ok(())
-}
-
-fn choice_rows(
-    heap: Global,
-    world: &World,
-    choice: &Choice,
-    rows: &mut Vec<OracleRow>,
-) -> Result<(), ExpandError> {
-    let Some(number) = resource(world, choice.taken.as_slice()) else {
-        rows.push(decided(heap, world, choice, None)?)?;
-        return Ok(());
-    };
-    match asked_of(heap, world, number)? {
-        Scoped::Unchanged => rows.push(decided(heap, world, choice, None)?)?,
-        Scoped::Nodes(nodes) => {
-            for node in nodes.as_slice() {
-                rows.push(decided(heap, world, choice, Some(*node))?)?;
+        match scope_of(resource, &self.graph) {
+            Ok(None) => rows.push(self.decided(choice, None)?)?,
+            Ok(Some((extent, asked))) => {
+                for node in nodes(self.heap, &self.graph, extent, asked)? {
+                    rows.push(self.decided(choice, Some(node))?)?;
+                }
+            }
+            Err(cause) => {
+                let numbers = choice.numbers.clone()?;
+                rows.push(fault(choice.reference, Some(numbers), cause, number))?;
             }
         }
-        Scoped::Fault(cause) => {
-            let numbers = Vec::from_slice(heap, choice.numbers.as_slice())?;
-            rows.push(fault(choice.reference, Some(numbers), cause, number))?;
-        }
+        Ok(())
     }
-    Ok(())
-}
 
-// The number of the resource element among those taken.
-fn resource(world: &World, taken: &[usize]) -> Option<usize> {
-    let elements = world.asked.elements.as_slice();
-    for number in taken {
-        if *number < elements.len() && elements[*number].category == 1 {
-            return Some(*number);
-        }
+    // The resource element among those taken, and its number.
+    fn resource(&self, choice: &Choice) -> Option<(usize, &Element)> {
+        choice
+            .taken
+            .iter()
+            .filter_map(|number| Some((*number, self.asked.elements.get(*number)?)))
+            .find(|(_, element)| element.category == 1)
     }
-    None
-}
 
-fn asked_of(heap: Global, world: &World, number: usize) -> Result<Scoped, ExpandError> {
-    match world.asked.elements.get(number) {
-        Some(element) => apply_scope(heap, element, &world.graph),
-        None => Ok(Scoped::Unchanged),
+    // The row of a choice, for a node or for none.
+    fn decided(&self, choice: &Choice, node: Option<usize>) -> Result<OracleRow, AllocError> {
+        let elements = self.asked.elements.as_slice();
+        let name = node.and_then(|node| self.graph.names.get(node));
+        let name = name.map(|name| name.as_slice());
+        let single = individual(self.heap, elements, choice.taken.as_slice(), name)?;
+        let bytes = written(self.heap, single.as_slice())?;
+        let answer = decide(&self.point, single.as_slice());
+        Ok(OracleRow {
+            reference: choice.reference,
+            choice: Some(choice.numbers.clone()?),
+            node,
+            decision: answer.decision,
+            status: answer.status,
+            cause: None,
+            place: answer.place,
+            single: Some(bytes),
+        })
     }
-}
-
-// The row of a choice, for a node or for none.
-fn decided(
-    heap: Global,
-    world: &World,
-    choice: &Choice,
-    node: Option<usize>,
-) -> Result<OracleRow, ExpandError> {
-    let elements = world.asked.elements.as_slice();
-    let names = world.graph.names.as_slice();
-    let single = individual(heap, elements, choice.taken.as_slice(), names, node)?;
-    let bytes = written(heap, single.as_slice())?;
-    let answer = decide(&world.point, single.as_slice());
-    Ok(OracleRow {
-        reference: choice.reference,
-        choice: Some(Vec::from_slice(heap, choice.numbers.as_slice())?),
-        node,
-        decision: answer.decision,
-        status: answer.status,
-        cause: None,
-        place: answer.place,
-        single: Some(bytes),
-    })
 }
 
 fn fault(reference: usize, choice: Option<Vec<usize>>, cause: Cause, place: usize) -> OracleRow {
@@ -220,10 +169,9 @@ fn fault(reference: usize, choice: Option<Vec<usize>>, cause: Cause, place: usiz
 
 // Permit exactly when every row is.
 fn combined(rows: &[OracleRow]) -> Decision {
-    for row in rows {
-        if row.decision != Decision::Permit {
-            return Decision::Deny;
-        }
+    if rows.iter().all(|row| row.decision == Decision::Permit) {
+        Decision::Permit
+    } else {
+        Decision::Deny
     }
-    Decision::Permit
 }

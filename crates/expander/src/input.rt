@@ -28,7 +28,7 @@ impl<'a> Input<'a> {
     pub(crate) fn wide(&mut self, most: usize) -> Result<usize, Unread> {
         let high = self.number(0, 255)?;
         let low = self.number(0, 255)?;
-        let number = high as usize * 256 + low as usize;
+        let number = usize::from(u16::from_be_bytes([high, low]));
         if number > most {
             return Err(Unread::Malformed);
         }
@@ -38,12 +38,12 @@ impl<'a> Input<'a> {
     // A length within a range, and as many bytes.
     pub(crate) fn text(&mut self, heap: Global, least: u8, most: u8) -> Result<Vec<u8>, Unread> {
         let length = self.number(least, most)?;
-        let mut text = Vec::new(heap);
-        for _ in 0..length {
-            let byte = self.number(0, 255)?;
-            text.push(byte)?;
-        }
-        Ok(text)
+        let (text, rest) = self
+            .rest
+            .split_at_checked(usize::from(length))
+            .ok_or(Unread::Malformed)?;
+        self.rest = rest;
+        Ok(Vec::from_slice(heap, text)?)
     }
 
     pub(crate) fn end(&self) -> Result<(), Unread> {

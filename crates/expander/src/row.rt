@@ -1,7 +1,7 @@
 use model::decision::{Cause, Decision, Status};
 
 // One individual decision, with where it comes from. A fault row has a cause, and no single request.
-#[derive(Drop)]
+#[derive(Debug, PartialEq, Drop)]
 pub struct OracleRow {
     pub reference: usize,
     pub choice: Option<Vec<usize>>,
@@ -14,7 +14,7 @@ pub struct OracleRow {
 }
 
 // All rows of a request, and the verdict where one was asked for.
-#[derive(Drop)]
+#[derive(Debug, PartialEq, Drop)]
 pub struct Expanded {
     pub rows: Vec<OracleRow>,
     pub verdict: Option<Decision>,

@@ -1,89 +1,66 @@
 use crate::content::{Attribute, Element, Graph, Link};
 use crate::decide::count;
-use crate::error::ExpandError;
 use crate::read::trees::node_named;
 use model::decision::Cause;
-use std::alloc::Global;
+use std::alloc::{AllocError, Global};
+use std::iter;
 
-// What the scope of a resource makes of a request.
-#[derive(Drop)]
-pub enum Scoped {
-    Unchanged,
-    Nodes(Vec<usize>),
-    Fault(Cause),
-}
-
-#[derive(Clone, Copy)]
-enum Extent {
-    Immediate,
+#[derive(Clone, Copy, Debug, PartialEq)]
+pub enum Extent {
     Children,
     Descendants,
 }
 
-pub(crate) fn apply_scope(
-    heap: Global,
+// What the scope of a resource asks for: how far the nodes go, and from which node. None where it stands as it is.
+pub(crate) fn scope_of(
     resource: &Element,
     graph: &Graph,
-) -> Result<Scoped, ExpandError> {
+) -> Result<Option<(Extent, usize)>, Cause> {
     let attributes = resource.attributes.as_slice();
     let Some(scope) = first(attributes, 2) else {
-        return Ok(Scoped::Unchanged);
+        return Ok(None);
     };
     if count(attributes, 2) > 1 {
-        return Ok(Scoped::Fault(Cause::SeveralScopes));
+        return Err(Cause::SeveralScopes);
     }
-    match extent_of(scope) {
-        None => Ok(Scoped::Fault(Cause::BadScope)),
-        Some(Extent::Immediate) => Ok(Scoped::Unchanged),
-        Some(Extent::Children) => nodes(heap, attributes, graph, false),
-        Some(Extent::Descendants) => nodes(heap, attributes, graph, true),
+    if scope.kind != 1 {
+        return Err(Cause::BadScope);
     }
+    let extent = match scope.value.as_slice() {
+        b"Immediate" => return Ok(None),
+        b"Children" => Extent::Children,
+        b"Descendants" => Extent::Descendants,
+        _ => return Err(Cause::BadScope),
+    };
+    Ok(Some((extent, asked_node(attributes, graph)?)))
 }
 
 fn first(attributes: &[Attribute], id: u8) -> Option<&Attribute> {
-    for attribute in attributes {
-        if attribute.id == id {
-            return Some(attribute);
-        }
-    }
-    None
+    attributes.iter().find(|attribute| attribute.id == id)
 }
 
-fn extent_of(scope: &Attribute) -> Option<Extent> {
-    if scope.kind != 1 {
-        return None;
-    }
-    match scope.value.as_slice() {
-        b"Immediate" => Some(Extent::Immediate),
-        b"Children" => Some(Extent::Children),
-        b"Descendants" => Some(Extent::Descendants),
-        _ => None,
-    }
-}
-
-fn nodes(
-    heap: Global,
-    attributes: &[Attribute],
-    graph: &Graph,
-    far: bool,
-) -> Result<Scoped, ExpandError> {
-    let Some(resource) = first(attributes, 1) else {
-        return Ok(Scoped::Fault(Cause::NoSingleResourceId));
-    };
+// The node that the one resource-id names.
+fn asked_node(attributes: &[Attribute], graph: &Graph) -> Result<usize, Cause> {
+    let resource = first(attributes, 1).ok_or(Cause::NoSingleResourceId)?;
     if count(attributes, 1) > 1 {
-        return Ok(Scoped::Fault(Cause::NoSingleResourceId));
+        return Err(Cause::NoSingleResourceId);
     }
-    let Some(asked) = node_named(graph.names.as_slice(), resource.value.as_slice()) else {
-        return Ok(Scoped::Fault(Cause::UnknownNode));
-    };
+    node_named(graph.names.as_slice(), resource.value.as_slice()).ok_or(Cause::UnknownNode)
+}
+
+// The node that is asked for, and those below it.
+pub(crate) fn nodes(
+    heap: Global,
+    graph: &Graph,
+    extent: Extent,
+    asked: usize,
+) -> Result<Vec<usize>, AllocError> {
     let count = graph.names.len();
     let links = graph.links.as_slice();
-    let nodes = if far {
-        descendants(heap, count, links, asked)?
-    } else {
-        children(heap, count, links, asked)?
-    };
-    Ok(Scoped::Nodes(nodes))
+    match extent {
+        Extent::Children => children(heap, count, links, asked),
+        Extent::Descendants => descendants(heap, count, links, asked),
+    }
 }
 
 // A node, then its children by number.
@@ -92,27 +69,18 @@ fn children(
     count: usize,
     links: &[Link],
     asked: usize,
-) -> Result<Vec<usize>, ExpandError> {
-    let mut nodes = Vec::new(heap);
-    nodes.push(asked)?;
-    for node in 0..count {
-        if node != asked && linked(links, asked, node) {
-            nodes.push(node)?;
-        }
-    }
-    Ok(nodes)
+) -> Result<Vec<usize>, AllocError> {
+    let others = (0..count).filter(|node| {
+        *node != asked
+            && links.contains(&Link {
+                parent: asked,
+                child: *node,
+            })
+    });
+    iter::once(asked).chain(others).collect(heap)
 }
 
-fn linked(links: &[Link], parent: usize, child: usize) -> bool {
-    for link in links {
-        if link.parent == parent && link.child == child {
-            return true;
-        }
-    }
-    false
-}
-
-#[derive(Clone, Copy, PartialEq, Eq, PartialOrd, Ord)]
+#[derive(Clone, Copy, Debug, PartialEq, Eq, PartialOrd, Ord)]
 struct Found {
     distance: usize,
     node: usize,
@@ -124,30 +92,26 @@ fn descendants(
     count: usize,
     links: &[Link],
     asked: usize,
-) -> Result<Vec<usize>, ExpandError> {
+) -> Result<Vec<usize>, AllocError> {
     let mut seen = vec![in heap; false; count]?;
-    if asked < seen.len() {
-        seen[asked] = true;
+    if let Some(seen) = seen.get_mut(asked) {
+        *seen = true;
     }
-    let mut queue = Vec::new(heap);
-    queue.push(Found {
-        distance: 0,
-        node: asked,
-    })?;
-    // No node is queued twice.
+    let mut queue = vec![in heap;
+        Found {
+            distance: 0,
+            node: asked,
+        },
+    ]?;
+    // By index: the queue grows while it is read. No node is queued twice.
     for next in 0..count {
-        if next >= queue.len() {
+        let Some(found) = queue.get(next).copied() else {
             break;
-        }
-        let found = queue[next];
+        };
         queue_children(links, found, &mut seen, &mut queue)?;
     }
     queue.sort()?;
-    let mut nodes = Vec::new(heap);
-    for found in queue.as_slice() {
-        nodes.push(found.node)?;
-    }
-    Ok(nodes)
+    queue.iter().map(|found| found.node).collect(heap)
 }
 
 fn queue_children(
@@ -155,14 +119,15 @@ fn queue_children(
     found: Found,
     seen: &mut Vec<bool>,
     queue: &mut Vec<Found>,
-) -> Result<(), ExpandError> {
-    for link in links {
-        let node = link.child;
-        if link.parent == found.node && node < seen.len() && !seen[node] {
-            seen[node] = true;
+) -> Result<(), AllocError> {
+    for link in links.iter().filter(|link| link.parent == found.node) {
+        if let Some(seen) = seen.get_mut(link.child)
+            && !*seen
+        {
+            *seen = true;
             queue.push(Found {
                 distance: found.distance.saturating_add(1),
-                node,
+                node: link.child,
             })?;
         }
     }

@@ -1,8 +1,10 @@
 -- Categories as codes, one by one. Assumes nothing.
-use Rattle.std.proofs.Common.{◌≡◌, ℕ, zero, suc, ◌+◌, ◌<◌, ◌≤◌, Bool, true, false, cond, ◌||◌, eqb, List, [], ◌∷◌, ◌++◌, map, length, get_or, take, drop, Some, sym, refl, ap, ◌∙◌, ap₂, append_assoc, arith}
+use Rattle.std.proofs.Common.{◌≡◌, ℕ, zero, suc, ◌+◌, ◌<◌, ◌≤◌, Bool, true, false, cond, ◌||◌, eqb, List, [], ◌∷◌, ◌++◌, map, length, get_or, drop, find, Some, None, Option, Bor, sym, refl, ap, ◌∙◌, ap₂, append_assoc, arith}
 use mathlib.Core.List.{Memᴰ}
-use Rattle.std.proofs.lemmas.List.{at_drop_more, at_drop_all, map_more, take_all, append-nil, length-map, length-take}
-use Rattle.std.proofs.lemmas.Bool.{cond-true, cond-false, eq-eqb, ne_eqb, lt-ltb, and_from}
+use Rattle.std.specs.List.{HoldsAt}
+use Rattle.std.specs.Option.{option_map, MatchOption}
+use Rattle.std.proofs.lemmas.List.{at_drop_more}
+use Rattle.std.proofs.lemmas.Bool.{cond-true, cond-false, lt-ltb, and_from}
 use Rattle.model.specs.Content.{Element}
 use Rattle.model.specs.Lists.{any, keep, found}
 use Rattle.model.specs.Rows.{Listed, category_of, of_category, categories, width, widths, occurrences}
@@ -26,6 +28,14 @@ code_past [] k h = refl
 code_past (e ∷ hs) zero h = absurd (omega arith)
 code_past (e ∷ hs) (suc k) h = code_past hs k (omega arith)
 
+-- as a look-up at k answers
+pub code_got : (hs : List HeldElement) (j k : ℕ) (o : Option (Bor HeldElement)) (r : ℕ) → j ≡ k → MatchOption o (length hs ≤ j) (λ x. (j < length hs) × HoldsAt (λ y. x.now ≡ y) hs j)
+    → MatchOption o (r ≡ 0) (λ x. r ≡ x.now.category) → r ≡ code_in hs k
+code_got hs j k None r e a b = b ∙ sym (code_past hs k (omega arith))
+code_got hs j k (Some x) r e a b =
+    let h : k < length hs = omega (arith, a.0) in
+    b ∙ ap (λ y. y.category) (a.1 x.now ∙ ap (λ i. get_or hs i x.now) e) ∙ sym (code_here hs k x.now h)
+
 module _ (bytes : List ℕ) (pool : List Attribute) where
   code_same : (hs : List HeldElement) (k : ℕ) → code_in hs k ≡ code_at (elements_of_held bytes pool hs) k
   code_same [] k = refl
@@ -35,36 +45,6 @@ module _ (bytes : List ℕ) (pool : List Attribute) where
   module _ (hs : List HeldElement) (es : List Element) (shown : elements_of_held bytes pool hs ≡ es) where
     pub code_is : (k : ℕ) → code_in hs k ≡ code_at es k
     code_is k = code_same hs k ∙ ap (λ l. code_at l k) shown
-
-pub mapped_more : (f : ℕ → ℕ) (ks : List ℕ) (i r : ℕ) (each new : List ℕ) → i < length ks → each ≡ map f (take i ks) → r ≡ f (get_or ks i 0) → new ≡ each ++ r ∷ []
-    → new ≡ map f (take (i + 1) ks)
-mapped_more f ks i r each new h e q p = p ∙ ap₂ (λ (l : List ℕ) (c : ℕ). l ++ c ∷ []) e q ∙ sym (map_more f ks i 0 h)
-
--- room for one more
-pub mapped_room : (f : ℕ → ℕ) (ks : List ℕ) (i : ℕ) (each : List ℕ) → i < length ks → length ks ≤ 16 → each ≡ map f (take i ks) → length each < 16
-mapped_room f ks i each h l e =
-    let a = ap length e in
-    let b = length-map (take i ks) f in
-    let c = length-take i ks in
-    omega arith
-
-pub map_all : {X Y : Type 0} (f : X → Y) (xs : List X) (i : ℕ) → length xs ≤ i → map f (take i xs) ≡ map f xs
-map_all f xs i h = ap (map f) (take_all i xs h)
-
--- SEARCHED AND COUNTED
-
-module _ (c : ℕ) (xs : List ℕ) (i : ℕ) (h : i < length xs) where
-  pub any_here : c ≡ get_or xs i 0 → any (eqb c) (drop i xs) ≡ true
-  any_here e = at_drop_more (any (eqb c)) xs i 0 h ∙ ap (λ b. b || any (eqb c) (drop (i + 1) xs)) (eq-eqb _ _ e)
-
-  pub any_on : (c ≡ get_or xs i 0 → ⊥) → any (eqb c) (drop i xs) ≡ any (eqb c) (drop (i + 1) xs)
-  any_on e = at_drop_more (any (eqb c)) xs i 0 h ∙ ap (λ b. b || any (eqb c) (drop (i + 1) xs)) (ne_eqb _ _ e)
-
-  pub counted_here : get_or xs i 0 ≡ c → occurrences c (drop i xs) ≡ 1 + occurrences c (drop (i + 1) xs)
-  counted_here e = at_drop_more (occurrences c) xs i 0 h ∙ cond-true _ _ _ (eq-eqb _ _ e)
-
-  pub counted_on : (get_or xs i 0 ≡ c → ⊥) → occurrences c (drop i xs) ≡ occurrences c (drop (i + 1) xs)
-  counted_on e = at_drop_more (occurrences c) xs i 0 h ∙ cond-false _ _ _ (ne_eqb _ _ e)
 
 -- BY FIRST APPEARANCE
 
@@ -80,9 +60,6 @@ module _ (seen codes : List ℕ) (i : ℕ) where
       ap (λ l. seen ++ l) (at_drop_more (firsts seen) codes i 0 h ∙ cond-false _ _ _ e)
       ∙ sym (append_assoc seen (c ∷ []) (firsts more (drop (i + 1) codes)))
       ∙ ap (λ l. l ++ firsts l (drop (i + 1) codes)) (sym p)
-
-  pub firsts_all : length codes ≤ i → seen ++ firsts seen (drop i codes) ≡ seen
-  firsts_all h = ap (λ l. seen ++ l) (at_drop_all (firsts seen) codes i h) ∙ append-nil seen
 
 -- THE SAME OVER LISTED ELEMENTS
 
@@ -148,9 +125,14 @@ widths_positive ls = positive_map (width ls) (categories [] ls) (λ c m.
 
 -- THE FIRST OF A CATEGORY
 
-module _ (es : List Element) (ks : List ℕ) (i : ℕ) (h : i < length ks) (n : ℕ) where
-  pub found_here : code_at es (get_or ks i 0) ≡ n → found (of_category n) (listed_of es (drop i ks)) ≡ Some (listed_at es (get_or ks i 0))
-  found_here e = at_drop_more (λ l. found (of_category n) (listed_of es l)) ks i 0 h ∙ cond-true _ _ _ (eq-eqb _ _ e)
-
-  pub found_on : (code_at es (get_or ks i 0) ≡ n → ⊥) → found (of_category n) (listed_of es (drop i ks)) ≡ found (of_category n) (listed_of es (drop (i + 1) ks))
-  found_on e = at_drop_more (λ l. found (of_category n) (listed_of es l)) ks i 0 h ∙ cond-false _ _ _ (ne_eqb _ _ e)
+module _ (bytes : List ℕ) (pool : List Attribute) (hs : List HeldElement) (es : List Element) (shown : elements_of_held bytes pool hs ≡ es) where
+  pub first_of : (c : ℕ) (ks : List ℕ) → found (of_category c) (listed_of es ks) ≡ option_map (listed_at es) (find (λ k. eqb (code_in hs k) c) ks)
+  first_of c [] = refl
+  first_of c (k ∷ ks) =
+      ap (λ n. cond (eqb n c) (Some (listed_at es k)) (found (of_category c) (listed_of es ks))) (sym (code_is bytes pool hs es shown k))
+      ∙ step (eqb (code_in hs k) c) (first_of c ks)
+    where
+      step : (b : Bool) → found (of_category c) (listed_of es ks) ≡ option_map (listed_at es) (find (λ j. eqb (code_in hs j) c) ks)
+          → cond b (Some (listed_at es k)) (found (of_category c) (listed_of es ks)) ≡ option_map (listed_at es) (cond b (Some k) (find (λ j. eqb (code_in hs j) c) ks))
+      step true e = refl
+      step false e = e

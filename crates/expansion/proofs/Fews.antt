@@ -1,16 +1,17 @@
 -- A few numbers, one by one. Assumes nothing.
-use Rattle.std.proofs.Common.{◌≡◌, ℕ, zero, suc, ◌+◌, ◌<◌, ◌≤◌, List, [], ◌∷◌, ◌++◌, length, take, set, refl, ap, ◌∙◌, arith}
-use Rattle.std.proofs.lemmas.List.{length-take-le}
-use Rattle.model.specs.Lists.{upto}
+use Rattle.std.proofs.Common.{◌≡◌, ℕ, zero, suc, ◌+◌, ◌<◌, ◌≤◌, ◌||◌, eqb, List, [], ◌∷◌, ◌++◌, length, get_or, take, map, sym, refl, ap, subst, ◌∙◌, ap₂, arith}
+use Rattle.std.specs.List.{AllZip, list_any}
+use Rattle.std.proofs.lemmas.List.{length-take, take_all, take_more}
+use Rattle.std.proofs.lemmas.Bool.Decides.{nat_tests}
+use Rattle.std.proofs.lemmas.List.Elements.{AllZip-push}
+use Rattle.std.proofs.lemmas.Slice.Zip.{AllZip-long}
+use Rattle.model.specs.Lists.{upto, any}
 use Rattle.single.specs.Numbers.{past}
 use Rattle.expansion.specs.declared.few.Few.{Few}
 use Rattle.expansion.specs.Few.{held}
 
-pub held_length : (f : Few) → length (held f) ≡ f.count
-held_length f = let h : f.count ≤ length f.numbers = omega (arith, f.full, f.few) in length-take-le f.count f.numbers h
-
 pub held_few : (f : Few) → length (held f) ≤ 16
-held_few f = omega (arith, held_length f, f.few)
+held_few f = omega (arith, length-take f.count f.numbers, f.few)
 
 pub length_upto : (i n : ℕ) → length (upto i n) ≡ n
 length_upto i zero = refl
@@ -42,8 +43,32 @@ past_upto i (suc n) m h =
     let b = past_upto (i + 1) n m a in
     omega arith
 
-pub take_put : (n : ℕ) (xs : List ℕ) (i x : ℕ) → i < n → take n (set xs i x) ≡ set (take n xs) i x
-take_put zero xs i x h = absurd (omega arith)
-take_put (suc n) [] i x h = refl
-take_put (suc n) (y ∷ xs) zero x h = refl
-take_put (suc n) (y ∷ xs) (suc i) x h = ap {B = List ℕ} (λ l. y ∷ l) (take_put n xs i x (omega arith))
+-- EACH MADE OF THE ONE BESIDE IT
+
+module _ (R : ℕ → ℕ → Type 0) (xs : List ℕ) (i : ℕ) (each : List ℕ) (made : AllZip R (take i xs) each) where
+  pub made_room : i < length xs → length xs ≤ 16 → length each < 16
+  made_room h l = omega (arith, AllZip-long R (take i xs) each made, length-take i xs)
+
+  pub made_more : (x : ℕ) (new : List ℕ) → i < length xs → R (get_or xs i 0) x → new ≡ each ++ x ∷ [] → AllZip R (take (i + 1) xs) new
+  made_more x new h r e =
+      subst (AllZip R (take (i + 1) xs)) (sym e)
+      (subst (λ l. AllZip R l (each ++ x ∷ [])) (sym (take_more xs i 0 h)) (AllZip-push R (take i xs) each (get_or xs i 0) x made r))
+
+  pub made_all : (ys : List ℕ) → length xs ≤ i → xs ≡ ys → AllZip R ys each
+  made_all ys h e = subst (λ l. AllZip R l each) (take_all i xs h ∙ e) made
+
+pub mapped : (f : ℕ → ℕ) (R : ℕ → ℕ → Type 0) (xs ys : List ℕ) → AllZip R xs ys → ((x y : ℕ) → R x y → y ≡ f x) → ys ≡ map f xs
+mapped f R [] [] a h = refl
+mapped f R [] (y ∷ ys) a h = absurd a
+mapped f R (x ∷ xs) [] a h = absurd a
+mapped f R (x ∷ xs) (y ∷ ys) a h = ap₂ {C = List ℕ} (λ z l. z ∷ l) (h x y a.0) (mapped f R xs ys a.1 h)
+
+-- SEARCHED
+
+same_turned : (x y : ℕ) → eqb x y ≡ eqb y x
+same_turned x y = grind (arith, nat_tests)
+
+-- as the library's `contains` answers
+pub any_is : (c : ℕ) (xs : List ℕ) → list_any (λ y. eqb y c) xs ≡ any (eqb c) xs
+any_is c [] = refl
+any_is c (x ∷ xs) = ap₂ (λ a b. a || b) (same_turned x c) (any_is c xs)

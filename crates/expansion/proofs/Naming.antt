@@ -1,17 +1,17 @@
 -- What tags list, tag by tag. Assumes nothing.
-use Rattle.std.proofs.Common.{◌≡◌, ℕ, ◌+◌, ◌<◌, ◌≤◌, Bool, true, false, cond, List, [], ◌∷◌, ◌++◌, length, get_or, drop, Some, None, Option, sym, refl, ap, ◌∙◌, ap₂, append_assoc, arith}
+use Rattle.std.proofs.Common.{◌≡◌, ℕ, ◌+◌, ◌<◌, Bool, true, false, cond, List, [], ◌∷◌, ◌++◌, length, get_or, drop, Some, None, Option, position, sym, refl, ap, ◌∙◌, ap₂, append_assoc, arith}
+use Rattle.std.specs.List.{position_from}
 use Rattle.std.specs.Option.{option_map}
-use Rattle.std.proofs.lemmas.List.{at_drop_more, at_drop_all, get_or-drop, drop-drop, map_push, length-map, append-nil}
+use Rattle.std.proofs.lemmas.Iterator.Adapters.{position_from-zero}
+use Rattle.std.proofs.lemmas.List.{at_drop_more, get_or-drop, drop-drop, map_push, length-map}
 use Rattle.model.specs.Content.{Element, is_tag}
 use Rattle.model.specs.Lists.{found, upto}
 use Rattle.model.specs.Rows.{Listed, Listing, lists, unknown, before, listed_next, carries, numbers_from, listing}
 use Rattle.request.specs.declared.content.Attribute.{Attribute}
 use Rattle.request.specs.declared.content.Element.{Element as HeldElement}
-use Rattle.request.specs.declared.request.Request.{Request as Place}
 use Rattle.request.specs.Held.{element_of_held, elements_of_held}
-use Rattle.request.specs.Place.{content_of, elements_shown}
 use Rattle.single.specs.Numbers.{blank, numbered}
-use Rattle.expansion.specs.Listed.{listed_at, listed_of, first_with}
+use Rattle.expansion.specs.Listed.{listed_at, listed_of, with_tag}
 
 -- listed elements before what is listed after them
 abbrev pub onto : List Listed → Listing → Listing
@@ -21,10 +21,6 @@ onto ls (unknown p) = unknown p
 onto_before : (ls : List Listed) (l : Listed) (rest : Listing) → onto ls (before l rest) ≡ onto (ls ++ l ∷ []) rest
 onto_before ls l (lists ms) = ap lists (sym (append_assoc ls (l ∷ []) ms))
 onto_before ls l (unknown p) = refl
-
-pub onto_none : (l : Listing) → onto [] l ≡ l
-onto_none (lists ms) = refl
-onto_none (unknown p) = refl
 
 -- the place of a list's part
 module _ (whole : List Element) (n : ℕ) (e : Element) (es : List Element) (at : drop n whole ≡ e ∷ es) where
@@ -47,44 +43,39 @@ all_are es = numbers_are es 0 es refl
 
 module _ (bytes : List ℕ) (pool : List Attribute) (t : ℕ) where
   found_from : (whole : List Element) (n : ℕ) (hs : List HeldElement) → drop n whole ≡ elements_of_held bytes pool hs
-      → found (carries t) (numbers_from n (elements_of_held bytes pool hs)) ≡ option_map (listed_at whole) (first_with n t hs)
+      → found (carries t) (numbers_from n (elements_of_held bytes pool hs)) ≡ option_map (listed_at whole) (position_from (with_tag t) n hs)
   found_from whole n [] at = refl
   found_from whole n (h ∷ hs) at = step (is_tag t h.tag) (found_from whole (n + 1) hs (after whole n (element_of_held bytes pool h) (elements_of_held bytes pool hs) at))
     where
-      step : (b : Bool) → found (carries t) (numbers_from (n + 1) (elements_of_held bytes pool hs)) ≡ option_map (listed_at whole) (first_with (n + 1) t hs)
+      step : (b : Bool) → found (carries t) (numbers_from (n + 1) (elements_of_held bytes pool hs)) ≡ option_map (listed_at whole) (position_from (with_tag t) (n + 1) hs)
           → cond b (Some (record { number = n; element = element_of_held bytes pool h })) (found (carries t) (numbers_from (n + 1) (elements_of_held bytes pool hs)))
-          ≡ option_map (listed_at whole) (cond b (Some n) (first_with (n + 1) t hs))
+          ≡ option_map (listed_at whole) (cond b (Some n) (position_from (with_tag t) (n + 1) hs))
       step true ih = ap {B = Option Listed} (λ x. Some (record { number = n; element = x })) (sym (here whole n (element_of_held bytes pool h) (elements_of_held bytes pool hs) at))
       step false ih = ih
 
-pub first_below : (n t : ℕ) (hs : List HeldElement) (k : ℕ) → first_with n t hs ≡ Some k → k < n + length hs
-first_below n t [] k e = let z : ◌≡◌ {A = ℕ} 0 1 = cc in absurd (omega arith)
-first_below n t (h ∷ hs) k e = step (is_tag t h.tag) e (first_below (n + 1) t hs k)
-  where
-    step : (b : Bool) → cond b (Some n) (first_with (n + 1) t hs) ≡ Some k → (first_with (n + 1) t hs ≡ Some k → k < (n + 1) + length hs) → k < n + length (h ∷ hs)
-    step true e f = let z : n ≡ k = cc in omega arith
-    step false e f = omega (arith, f e)
+pub position_below : (t : ℕ) (hs : List HeldElement) (k : ℕ) → Some k ≡ position (with_tag t) hs → k < length hs
+position_below t hs k e = grind arith
 
 -- over the elements that a request shows
 module _ (bytes : List ℕ) (pool : List Attribute) (hs : List HeldElement) (es : List Element) (shown : elements_of_held bytes pool hs ≡ es) where
   pub shown_length : length hs ≡ length es
   shown_length = sym (length-map hs (element_of_held bytes pool)) ∙ ap length shown
 
-  found_is : (t : ℕ) (o : Option ℕ) → o ≡ first_with 0 t hs → found (carries t) (numbers_from 0 es) ≡ option_map (listed_at es) o
+  found_is : (t : ℕ) (o : Option ℕ) → o ≡ position (with_tag t) hs → found (carries t) (numbers_from 0 es) ≡ option_map (listed_at es) o
   found_is t o e =
-      ap (λ l. found (carries t) (numbers_from 0 l)) (sym shown) ∙ found_from bytes pool t es 0 hs (sym shown) ∙ ap (option_map (listed_at es)) (sym e)
+      ap (λ l. found (carries t) (numbers_from 0 l)) (sym shown) ∙ found_from bytes pool t es 0 hs (sym shown) ∙ ap (option_map (listed_at es)) (sym (e ∙ position_from-zero (with_tag t) hs))
 
   module _ (tags : List ℕ) (i : ℕ) (h : i < length tags) where
-    listing_more : (o : Option ℕ) → o ≡ first_with 0 (get_or tags i 0) hs
+    listing_more : (o : Option ℕ) → o ≡ position (with_tag (get_or tags i 0)) hs
         → listing (numbers_from 0 es) i (drop i tags) ≡ listed_next i (option_map (listed_at es) o) (listing (numbers_from 0 es) (i + 1) (drop (i + 1) tags))
     listing_more o e =
         at_drop_more (listing (numbers_from 0 es) i) tags i 0 h
         ∙ ap (λ x. listed_next i x (listing (numbers_from 0 es) (i + 1) (drop (i + 1) tags))) (found_is (get_or tags i 0) o e)
 
-    pub one_unknown : (ks : List ℕ) → None ≡ first_with 0 (get_or tags i 0) hs → onto (listed_of es ks) (listing (numbers_from 0 es) i (drop i tags)) ≡ unknown i
+    pub one_unknown : (ks : List ℕ) → None ≡ position (with_tag (get_or tags i 0)) hs → onto (listed_of es ks) (listing (numbers_from 0 es) i (drop i tags)) ≡ unknown i
     one_unknown ks e = ap (onto (listed_of es ks)) (listing_more None e)
 
-    pub one_listed : (ks js : List ℕ) (k : ℕ) → Some k ≡ first_with 0 (get_or tags i 0) hs → js ≡ ks ++ k ∷ []
+    pub one_listed : (ks js : List ℕ) (k : ℕ) → Some k ≡ position (with_tag (get_or tags i 0)) hs → js ≡ ks ++ k ∷ []
         → onto (listed_of es ks) (listing (numbers_from 0 es) i (drop i tags)) ≡ onto (listed_of es js) (listing (numbers_from 0 es) (i + 1) (drop (i + 1) tags))
     one_listed ks js k e p =
         let rest = listing (numbers_from 0 es) (i + 1) (drop (i + 1) tags) in
@@ -92,14 +83,3 @@ module _ (bytes : List ℕ) (pool : List Attribute) (hs : List HeldElement) (es 
         ∙ onto_before (listed_of es ks) (listed_at es k) rest
         ∙ ap (λ l. onto l rest) (sym (map_push (listed_at es) ks k))
         ∙ ap (λ l. onto (listed_of es l) rest) (sym p)
-
-  pub all_tags : (tags : List ℕ) (i : ℕ) (ks : List ℕ) → length tags ≤ i → onto (listed_of es ks) (listing (numbers_from 0 es) i (drop i tags)) ≡ lists (listed_of es ks)
-  all_tags tags i ks h =
-      at_drop_all (λ ts. onto (listed_of es ks) (listing (numbers_from 0 es) i ts)) tags i h ∙ ap lists (append-nil (listed_of es ks))
-
--- no request has more than 16 elements
-pub few_shown : (p : Place) (hs : List HeldElement) → elements_shown p hs ≡ (content_of p).elements → length hs ≤ 16
-few_shown p hs e =
-    let a = shown_length p.bytes.now p.index.attributes.items hs (content_of p).elements e in
-    let b = length-map p.index.elements.items (element_of_held p.bytes.now p.index.attributes.items) in
-    omega (arith, a, b, p.index.elements.ok.0, p.index.few_elements)

@@ -1,6 +1,6 @@
 -- The chosen elements by their numbers. Assumes nothing.
-use Rattle.std.proofs.Common.{◌≡◌, ℕ, ◌+◌, ◌<◌, ◌≤◌, Bool, true, false, cond, eqb, List, [], ◌∷◌, ◌++◌, map, length, get_or, take, drop, sym, refl, ap, ◌∙◌, ap₂, append_assoc, arith}
-use Rattle.std.proofs.lemmas.List.{drop_more, drop_all, take_more, append-nil}
+use Rattle.std.proofs.Common.{◌≡◌, ℕ, ◌+◌, ◌<◌, ◌≤◌, Bool, true, false, cond, eqb, List, [], ◌∷◌, ◌++◌, map, length, ◌⊎◌, inl, inr, get_or, take, drop, sym, refl, ap, ◌∙◌, ap₂, append_assoc, arith}
+use Rattle.std.proofs.lemmas.List.{drop_more, take_more, length-drop}
 use Rattle.std.proofs.lemmas.Bool.{cond-true, cond-false, eq-eqb, ne_eqb}
 use Rattle.model.specs.Content.{Element}
 use Rattle.model.specs.Rows.{Listed, categories, occurrences, taken, picked, chosen}
@@ -11,46 +11,49 @@ use Rattle.expansion.proofs.Codes.{categories_are}
 
 -- THE POSITION TAKEN
 
-module _ (ks ps : List ℕ) (i c : ℕ) (h : i < length ks) where
-  pub taken_past : length ps ≤ i → taken (drop i ks) (drop i ps) c ≡ 0
-  taken_past l = ap₂ (λ a b. taken a b c) (drop_more ks i 0 h) (drop_all i ps l)
-
-  pub taken_here : i < length ps → get_or ks i 0 ≡ c → taken (drop i ks) (drop i ps) c ≡ get_or ps i 0
-  taken_here l e = ap₂ (λ a b. taken a b c) (drop_more ks i 0 h) (drop_more ps i 0 l) ∙ cond-true _ _ _ (eq-eqb _ _ e)
-
-  pub taken_on : i < length ps → (get_or ks i 0 ≡ c → ⊥) → taken (drop i ks) (drop i ps) c ≡ taken (drop (i + 1) ks) (drop (i + 1) ps) c
-  taken_on l e = ap₂ (λ a b. taken a b c) (drop_more ks i 0 h) (drop_more ps i 0 l) ∙ cond-false _ _ _ (ne_eqb _ _ e)
-
-pub taken_end : (ks ps : List ℕ) (i c : ℕ) → length ks ≤ i → taken (drop i ks) (drop i ps) c ≡ 0
-taken_end ks ps i c h = ap (λ a. taken a (drop i ps) c) (drop_all i ks h)
+pub taken_none : (ks ps : List ℕ) (c : ℕ) → (ks ≡ []) ⊎ (ps ≡ []) → taken ks ps c ≡ 0
+taken_none ks ps c (inl e) = ap (λ l. taken l ps c) e
+taken_none [] ps c (inr e) = refl
+taken_none (k ∷ ks) ps c (inr e) = ap (λ l. taken (k ∷ ks) l c) e
 
 -- PICKED ONE BY ONE
 
-module _ (cs ps ks codes : List ℕ) (i : ℕ) where
-  abbrev pub left : List ℕ
-  left = picks cs ps (take i codes) (drop i ks) (drop i codes)
+-- the next number k and its code c, of those that are left from place i on; j is the place after it
+module _ (cs ps codes : List ℕ) (i j k c : ℕ) (ks more left rest : List ℕ) (next : j ≡ i + 1) (hk : ks ≡ k ∷ more) (hc : left ≡ c ∷ rest) (at : left ≡ drop i codes) where
+  within : i < length codes
+  within = omega (arith, ap length (sym hc ∙ at), length-drop i codes)
 
-module _ (cs ps ks codes : List ℕ) (i : ℕ) (hk : i < length ks) (hc : i < length codes) where
-  one_more : left cs ps ks codes i
-      ≡ cond (eqb (occurrences (get_or codes i 0) (take i codes)) (taken cs ps (get_or codes i 0))) (get_or ks i 0 ∷ left cs ps ks codes (i + 1)) (left cs ps ks codes (i + 1))
+  parts : ◌≡◌ {A = List ℕ} (c ∷ rest) (get_or codes i 0 ∷ drop (i + 1) codes)
+  parts = sym hc ∙ at ∙ drop_more codes i 0 within
+
+  pub rest_is : rest ≡ drop j codes
+  rest_is = let p = parts in let e : rest ≡ drop (i + 1) codes = cc in e ∙ ap (λ n. drop n codes) (sym next)
+
+  earlier_is : take j codes ≡ take i codes ++ c ∷ []
+  earlier_is =
+      let p = parts in
+      let e : get_or codes i 0 ≡ c = cc in
+      ap (λ n. take n codes) next ∙ take_more codes i 0 within ∙ ap (λ x. take i codes ++ x ∷ []) e
+
+  one_more : picks cs ps (take i codes) ks left ≡ cond (eqb (occurrences c (take i codes)) (taken cs ps c)) (k ∷ picks cs ps (take j codes) more rest) (picks cs ps (take j codes) more rest)
   one_more =
-      let c = get_or codes i 0 in
-      ap₂ (picks cs ps (take i codes)) (drop_more ks i 0 hk) (drop_more codes i 0 hc)
-      ∙ ap (λ e. cond (eqb (occurrences c (take i codes)) (taken cs ps c)) (get_or ks i 0 ∷ picks cs ps e (drop (i + 1) ks) (drop (i + 1) codes)) (picks cs ps e (drop (i + 1) ks) (drop (i + 1) codes))) (sym (take_more codes i 0 hc))
+      ap₂ (picks cs ps (take i codes)) hk hc
+      ∙ ap (λ e. cond (eqb (occurrences c (take i codes)) (taken cs ps c)) (k ∷ picks cs ps e more rest) (picks cs ps e more rest)) (sym earlier_is)
 
-  pub pick_not : (acc : List ℕ) → (occurrences (get_or codes i 0) (take i codes) ≡ taken cs ps (get_or codes i 0) → ⊥)
-      → acc ++ left cs ps ks codes i ≡ acc ++ left cs ps ks codes (i + 1)
-  pick_not acc e = ap (λ l. acc ++ l) (one_more ∙ cond-false _ _ _ (ne_eqb _ _ e))
+  pub pick_not : (acc : List ℕ) → (occurrences c (take i codes) ≡ taken cs ps c → ⊥) → acc ++ picks cs ps (take j codes) more rest ≡ acc ++ picks cs ps (take i codes) ks left
+  pick_not acc e = ap (λ l. acc ++ l) (sym (one_more ∙ cond-false _ _ _ (ne_eqb _ _ e)))
 
-  pub pick_it : (acc new : List ℕ) → occurrences (get_or codes i 0) (take i codes) ≡ taken cs ps (get_or codes i 0) → new ≡ acc ++ get_or ks i 0 ∷ []
-      → acc ++ left cs ps ks codes i ≡ new ++ left cs ps ks codes (i + 1)
+  pub pick_it : (acc new : List ℕ) → occurrences c (take i codes) ≡ taken cs ps c → new ≡ acc ++ k ∷ []
+      → new ++ picks cs ps (take j codes) more rest ≡ acc ++ picks cs ps (take i codes) ks left
   pick_it acc new e p =
-      ap (λ l. acc ++ l) (one_more ∙ cond-true _ _ _ (eq-eqb _ _ e))
-      ∙ sym (append_assoc acc (get_or ks i 0 ∷ []) (left cs ps ks codes (i + 1)))
-      ∙ ap (λ l. l ++ left cs ps ks codes (i + 1)) (sym p)
+      ap (λ l. l ++ picks cs ps (take j codes) more rest) p
+      ∙ append_assoc acc (k ∷ []) (picks cs ps (take j codes) more rest)
+      ∙ ap (λ l. acc ++ l) (sym (one_more ∙ cond-true _ _ _ (eq-eqb _ _ e)))
 
-pub pick_all : (cs ps ks codes acc : List ℕ) (i : ℕ) → length ks ≤ i → acc ++ left cs ps ks codes i ≡ acc
-pick_all cs ps ks codes acc i h = ap (λ l. acc ++ picks cs ps (take i codes) l (drop i codes)) (drop_all i ks h) ∙ append-nil acc
+pub pick_none : (cs ps earlier ks codes : List ℕ) → (ks ≡ []) ⊎ (codes ≡ []) → picks cs ps earlier ks codes ≡ []
+pick_none cs ps earlier ks codes (inl e) = ap (λ l. picks cs ps earlier l codes) e
+pick_none cs ps earlier [] codes (inr e) = refl
+pick_none cs ps earlier (k ∷ ks) codes (inr e) = ap (picks cs ps earlier (k ∷ ks)) e
 
 -- WHAT IS PICKED
 
@@ -92,14 +95,6 @@ picks_are es cs ps earlier before (k ∷ ks) f =
         → listed_of es (cond b (k ∷ onward es cs ps earlier k ks) (onward es cs ps earlier k ks)) ≡ cond b (listed_at es k ∷ picked cs ps (code_at es k ∷ before) (listed_of es ks)) (picked cs ps (code_at es k ∷ before) (listed_of es ks))
     step true e = ap {B = List Listed} (λ l. listed_at es k ∷ l) e
     step false e = e
-
--- over slices that are those lists
-pub picks_over : (ps ks codes qs js cs new : List ℕ) → qs ≡ ps → js ≡ ks → cs ≡ codes → new ≡ picks (firsts [] cs) qs [] js cs → new ≡ picks (firsts [] codes) ps [] ks codes
-picks_over ps ks codes qs js cs new p k c e =
-    e
-    ∙ ap (λ l. picks (firsts [] l) qs [] js l) c
-    ∙ ap (λ l. picks (firsts [] codes) l [] js codes) p
-    ∙ ap (λ l. picks (firsts [] codes) ps [] l codes) k
 
 pub chosen_is : (es : List Element) (ps ks codes new : List ℕ) → codes ≡ map (code_at es) ks → new ≡ picks (firsts [] codes) ps [] ks codes
     → listed_of es new ≡ chosen (listed_of es ks) ps

@@ -1,6 +1,7 @@
 -- Single requests of chosen elements. Assumes nothing.
-use Rattle.std.proofs.Common.{◌≡◌, ℕ, zero, suc, ◌<◌, ◌≤◌, ltb, List, [], ◌∷◌, map, length, get_or, Some, None, sym, refl, ap, ◌∙◌, arith}
-use Rattle.std.specs.Option.{option_map}
+use Rattle.std.proofs.Common.{◌≡◌, ℕ, zero, suc, ◌<◌, ◌≤◌, ltb, List, [], ◌∷◌, map, length, get_or, Some, None, Option, Bor, sym, refl, ap, ◌∙◌, arith}
+use Rattle.std.specs.Option.{option_map, unwrap_or}
+use Rattle.std.proofs.lemmas.List.{get_or_past}
 use Rattle.std.proofs.lemmas.Bool.{cond-true, cond-false, lt-ltb, le-ltb}
 use Rattle.model.specs.Content.{Element}
 use Rattle.model.specs.Lists.{nth}
@@ -50,15 +51,10 @@ module _ (tree : Tree) (n : ℕ) (ls : List Listed) where
   pub node_past : None ≡ nth tree.names n → None ≡ at_node tree n ls
   node_past e = sym (cond-false (ltb n (count tree)) (Some (single_request tree (Some n) ls)) None (le-ltb _ _ (nth_none tree.names n e)))
 
-pub name_some : (names : List (List ℕ)) (n : ℕ) (t : List ℕ) → Some t ≡ nth names n → get_or names n [] ≡ t
-name_some [] n t e = let z : ◌≡◌ {A = ℕ} 0 1 = cc in absurd (omega arith)
-name_some (x ∷ names) zero t e = cc
-name_some (x ∷ names) (suc n) t e = name_some names n t e
-
-pub name_none : (names : List (List ℕ)) (n : ℕ) → None ≡ nth names n → get_or names n [] ≡ []
-name_none [] n e = refl
-name_none (x ∷ names) zero e = let z : ◌≡◌ {A = ℕ} 0 1 = cc in absurd (omega arith)
-name_none (x ∷ names) (suc n) e = name_none names n e
+-- past the last node the name is empty
+pub name_or_empty : (names : List (List ℕ)) (n : ℕ) (o : Option (Bor (List ℕ))) (b : Bor (List ℕ)) → b.now ≡ [] → option_map (λ t. t.now) o ≡ nth names n → get_or names n [] ≡ (unwrap_or o b).now
+name_or_empty names n (Some t) b e h = (nth_some names n t.now h).1
+name_or_empty names n None b e h = get_or_past names n [] (nth_none names n h) ∙ sym e
 
 pub put_node : (tree : Tree) (n : ℕ) (ls : List Listed) (t : List ℕ) (es content : List Element) → get_or tree.names n [] ≡ t
     → es ≡ map element_of ls → content ≡ map (for_node t) es → content ≡ single_request tree (Some n) ls

@@ -51,10 +51,6 @@ module _ {A B C : Type 0} (f : B → C) (g : A → B) where
   nth_maps_past (x ∷ xs) zero h = absurd (omega arith)
   nth_maps_past (x ∷ xs) (suc k) h = nth_maps_past xs k (omega arith)
 
-pub nth_one_past : {A : Type 0} (x : A) (k : ℕ) → 0 < k → nth (x ∷ []) k ≡ None
-nth_one_past x zero h = absurd (omega arith)
-nth_one_past x (suc k) h = refl
-
 pub nth_one : {A : Type 0} (x : A) (k : ℕ) → k ≤ 0 → nth (x ∷ []) k ≡ Some x
 nth_one x zero h = refl
 nth_one x (suc k) h = absurd (omega arith)

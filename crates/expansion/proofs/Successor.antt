@@ -1,7 +1,7 @@
 -- One choice after the other gives all choices. Assumes nothing.
-use Rattle.std.proofs.Common.{◌≡◌, ℕ, zero, suc, ◌+◌, ◌-◌, ◌<◌, ◌≤◌, Bool, true, false, cond, ltb, List, [], ◌∷◌, ◌++◌, length, get_or, take, drop, set, replicate, Some, None, Option, sym, refl, ap, ◌∙◌, ap₂, arith}
+use Rattle.std.proofs.Common.{◌≡◌, ℕ, zero, suc, ◌+◌, ◌-◌, ◌<◌, ◌≤◌, Bool, true, false, cond, ltb, List, [], ◌∷◌, ◌++◌, map, length, get_or, take, drop, set, replicate, Some, None, Option, sym, refl, ap, ◌∙◌, ap₂, arith}
 use Rattle.std.specs.List.{flat_map}
-use Rattle.std.proofs.lemmas.List.{drop_more, drop_all, take_all, length-append, length-take, length-drop, length-replicate}
+use Rattle.std.proofs.lemmas.List.{drop_more}
 use Rattle.std.proofs.lemmas.Bool.{cond-true, cond-false, and_parts, ltb-true, ltb-false, lt-ltb, le-ltb}
 use Rattle.model.specs.Lists.{upto}
 use Rattle.model.specs.Rows.{each_after, choices}
@@ -25,6 +25,10 @@ first_walk (w ∷ ws) h =
     ap (λ n. flat_map (each_after (choices ws)) (upto 0 n)) z
     ∙ from_more 0 w ws l
     ∙ ap (λ cs. each_after cs 0 ++ choices_from 1 w ws) (first_walk ws a.1)
+
+pub all_zeros : (ws : List ℕ) → map (λ (w : ℕ). 0) ws ≡ zeros ws
+all_zeros [] = refl
+all_zeros (w ∷ ws) = ap {B = List ℕ} (λ l. 0 ∷ l) (all_zeros ws)
 
 same_zeros : (ws ps : List ℕ) → length ps ≡ length ws → zeros ws ≡ zeros ps
 same_zeros ws ps e = ap (λ n. replicate n 0) (sym e)
@@ -94,19 +98,3 @@ put_cleared n i is ps held new x h e q =
 
 pub zero_cleared : (i : ℕ) (ps : List ℕ) → i < length ps → take i ps ++ 0 ∷ zeros (drop (i + 1) ps) ≡ cleared i ps
 zero_cleared i ps h = ap (λ l. take i ps ++ zeros l) (sym (drop_more ps i 0 h))
-
-pub all_cleared : (ps : List ℕ) (n : ℕ) → length ps ≤ n → cleared n ps ≡ ps
-all_cleared [] n h = ap₂ (λ (a b : List ℕ). a ++ zeros b) (take_all n [] h) (drop_all n [] h)
-all_cleared (p ∷ ps) zero h = absurd (omega arith)
-all_cleared (p ∷ ps) (suc n) h = ap {B = List ℕ} (λ l. p ∷ l) (all_cleared ps n (omega arith))
-
-pub still_past : (ws ps : List ℕ) (n : ℕ) → length ws ≤ n → next_choice (drop n ws) (drop n ps) ≡ None
-still_past ws ps n h = ap (λ l. next_choice l (drop n ps)) (drop_all n ws h)
-
-pub cleared_length : (n : ℕ) (ps : List ℕ) → length (cleared n ps) ≡ length ps
-cleared_length n ps =
-    let a = length-append (take n ps) (zeros (drop n ps)) in
-    let b = length-take n ps in
-    let c = length-drop n ps in
-    let d = length-replicate {A = ℕ} (length (drop n ps)) 0 in
-    omega arith

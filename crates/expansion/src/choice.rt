@@ -12,12 +12,7 @@ pub fn first(widths: &Few) -> Few
     ensures walk { positive (held widths.now) ≡ true → choices (held widths.now) ≡ held result ∷ after_choice (held widths.now) (held result) }
     ensures long { length (held result) ≡ length (held widths.now) }
 {
-    let count = widths.as_slice().len();
-    let mut choice = Few::new();
-    for _category in 0..count {
-        choice.push(0);
-    }
-    choice
+    widths.map(|_width| 0)
 }
 
 // The choice after this one, if there is one: the last category that can moves on, and those after it start anew.
@@ -31,12 +26,10 @@ pub fn next(widths: &Few, choice: &Few) -> Option<Few>
         return None;
     }
     let mut next = *choice;
-    let mut i = widths.len();
-    while i > 0 {
-        i -= 1;
-        let moved = positions[i] as usize + 1;
-        if moved < widths[i] as usize {
-            next.put(i, moved as u8);
+    // By index: one place of three lists, and from the last on.
+    for i in (0..widths.len()).rev() {
+        if positions[i] < widths[i].saturating_sub(1) {
+            next.put(i, positions[i] + 1);
             return Some(next);
         }
         next.put(i, 0);

@@ -1,4 +1,4 @@
-ghost use Rattle.std.specs.Prelude.{◌≡◌, ◌≤◌, [], map, length, Some};
+ghost use Rattle.std.specs.Prelude.{◌≡◌, ◌≤◌, [], map, Some};
 ghost use Rattle.std.specs.Option.{option_map};
 ghost use Rattle.model.specs.Rows.{taken as taken_of, chosen as chosen_of, resource as resource_of};
 ghost use Rattle.request.specs.Place.{content_of};
@@ -9,41 +9,32 @@ ghost use Rattle.expansion.specs.Categories.{firsts as firsts_of, picks};
 
 use crate::categories::{category, codes, firsts, occurrences};
 use crate::few::Few;
+use model::codes::RESOURCE;
 use request::request::Request;
 
-const RESOURCE: u8 = 1;
-
-// The position that is taken of a category.
-fn taken(categories: &[u8], positions: &[u8], category: u8) -> u8
-    ensures { result ≡ taken_of categories.now positions.now category }
+// The position that is taken of a category; in the specification 0 where there is none, and no caller tells that apart.
+fn taken(categories: &Few, positions: &Few, category: u8) -> u8
+    ensures { result ≡ taken_of (held categories.now) (held positions.now) category }
 {
-    for i in 0..categories.len() {
-        if i >= positions.len() {
-            return 0;
-        }
-        if categories[i] == category {
-            return positions[i];
+    for (other, position) in categories.as_slice().iter().zip(positions.as_slice()) {
+        if *other == category {
+            return *position;
         }
     }
     0
 }
 
 // Of the numbers, with the category of each beside it, those at the position taken of their category.
-fn pick(numbers: &[u8], codes: &[u8], positions: &[u8]) -> Few
-    requires few { length numbers.now ≤ 16 }
-    requires beside { length codes.now ≡ length numbers.now }
-    ensures { held result ≡ picks (firsts_of [] codes.now) positions.now [] numbers.now codes.now }
+fn pick(numbers: &Few, codes: &Few, positions: &Few) -> Few
+    ensures { held result ≡ picks (firsts_of [] (held codes.now)) (held positions.now) [] (held numbers.now) (held codes.now) }
 {
-    let seen = firsts(codes);
-    let categories = seen.as_slice();
+    let categories = firsts(codes);
+    let each = codes.as_slice();
     let mut picked = Few::new();
-    for i in 0..numbers.len() {
-        let before = occurrences(&codes[0..i], codes[i]);
-        let position = taken(categories, positions, codes[i]);
-        if before != position {
-            continue;
+    for (i, (number, code)) in numbers.as_slice().iter().zip(each).enumerate() {
+        if occurrences(&each[..i], *code) == taken(&categories, positions, *code) {
+            picked.push(*number);
         }
-        picked.push(numbers[i]);
     }
     picked
 }
@@ -53,10 +44,7 @@ pub fn chosen(request: &Request, listed: &Few, choice: &Few) -> Few
     ensures chosen { listed_of (content_of request.now).elements (held result) ≡ chosen_of (listed_of (content_of request.now).elements (held listed.now)) (held choice.now) }
     ensures names { past (held result) ≤ past (held listed.now) }
 {
-    let numbers = listed.as_slice();
-    let positions = choice.as_slice();
-    let each = codes(request, listed);
-    pick(numbers, each.as_slice(), positions)
+    pick(listed, &codes(request, listed), choice)
 }
 
 // The number of the first resource among chosen elements.
@@ -64,12 +52,9 @@ pub fn resource(request: &Request, chosen: &Few) -> Option<u8>
     ensures { option_map (listed_at (content_of request.now).elements) result ≡ resource_of (listed_of (content_of request.now).elements (held chosen.now)) }
 {
     let elements = request.elements();
-    let numbers = chosen.as_slice();
-    for number in numbers {
-        let code = category(elements, *number as usize);
-        if code == RESOURCE {
-            return Some(*number);
-        }
-    }
-    None
+    chosen
+        .as_slice()
+        .iter()
+        .copied()
+        .find(|number| category(elements, *number) == RESOURCE)
 }

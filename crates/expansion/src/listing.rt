@@ -1,10 +1,5 @@
-use crate::few::Few;
-
-// What a reference lists.
-#[derive(Clone, Copy)]
-pub enum Listing {
-    // Elements by their numbers in the request.
-    Lists(Few),
-    // The position of the first tag that names no element.
-    Unknown(u8),
+// A reference lists no elements where one of its tags names none: the position of the first such tag.
+#[derive(Clone, Copy, Debug, PartialEq)]
+pub struct UnknownTag {
+    pub position: u8,
 }

@@ -31,10 +31,8 @@ pub fn put_at<'r, 'a, 'm, T: Tree>(
 ) -> Option<SingleRequest<'r, 'a, 'm>>
     ensures { (ls : List Listed) → chosen_of single.now ≡ map element_of ls → option_map content result ≡ at_node (T.meaning tree.now) node ls }
 {
-    match tree.name(node) {
-        Some(name) => Some(single.at(name)),
-        None => None,
-    }
+    let name = tree.name(node)?;
+    Some(single.at(name))
 }
 
 // The same for a node that was reached; past the last node, which no reached one is, the name is empty.
@@ -45,8 +43,5 @@ pub fn put_reached<'r, 'a, 'm, T: Tree>(
 ) -> SingleRequest<'r, 'a, 'm>
     ensures { (ls : List Listed) → chosen_of single.now ≡ map element_of ls → content result ≡ single_request (T.meaning tree.now) (Some node) ls }
 {
-    match tree.name(node) {
-        Some(name) => single.at(name),
-        None => single.at(&[]),
-    }
+    single.at(tree.name(node).unwrap_or(&[]))
 }

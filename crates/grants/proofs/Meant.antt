@@ -59,14 +59,14 @@ found q k (l ∷ ls) = found_by q l k ls (same_line l q) refl (found q (k + 1) l
 differs : (q l : Line) (ls : List Line) → (At zero q (l ∷ ls) → ⊥) → same_line l q ≡ false
 differs q l ls h = ⊎_elim (λ t. absurd (h (subst (λ x. At zero q (x ∷ ls)) (sym (line_is l q t)) first))) (λ f. f) (cases_Bool (same_line l q))
 
-first_at : (q : Line) (k n : ℕ) (lines : List Line) → At n q lines → ((m : ℕ) → m < n → At m q lines → ⊥) → first_line q k lines ≡ answers decision.Permit status.Ok (k + n)
+pub first_at : (q : Line) (k n : ℕ) (lines : List Line) → At n q lines → ((m : ℕ) → m < n → At m q lines → ⊥) → first_line q k lines ≡ answers decision.Permit status.Ok (k + n)
 first_at q k n [] a h = elim a [ ]
 first_at q k zero (l ∷ ls) first h = cond-true _ _ _ (line_self l) ∙ ap (answers decision.Permit status.Ok) (sym (add-zero k))
 first_at q k (suc n) (l ∷ ls) (later a) h =
     let e : k + 1 + n ≡ k + suc n = omega arith in
     cond-false _ _ _ (differs q l ls (h zero (omega arith))) ∙ first_at q (k + 1) n ls a (λ m o b. h (suc m) (omega arith) (later b)) ∙ ap (answers decision.Permit status.Ok) e
 
-first_nowhere : (q : Line) (k : ℕ) (lines : List Line) → ((m : ℕ) → At m q lines → ⊥) → first_line q k lines ≡ answers decision.Deny status.Ok 0
+pub first_nowhere : (q : Line) (k : ℕ) (lines : List Line) → ((m : ℕ) → At m q lines → ⊥) → first_line q k lines ≡ answers decision.Deny status.Ok 0
 first_nowhere q k [] h = refl
 first_nowhere q k (l ∷ ls) h = cond-false _ _ _ (differs q l ls (h zero)) ∙ first_nowhere q (k + 1) ls (λ m b. h (suc m) (later b))
 

@@ -1,118 +1,72 @@
 -- The table of lines in the order of their texts: what a search in it finds, and a line more. Assumes nothing.
-use Rattle.std.proofs.Common.{◌≡◌, ℕ, zero, suc, ◌+◌, ◌-◌, ◌<◌, ◌≤◌, Bool, true, false, ◌&&◌, leb, List, [], ◌∷◌, ◌++◌, length, get_or, Ordering, Less, Equal, Greater, sym, refl, ap, ◌∙◌, subst, ap₂, ⊎_elim, add-zero, arith}
+use Rattle.std.proofs.Common.{◌≡◌, ℕ, ◌+◌, ◌-◌, ◌<◌, ◌≤◌, Bool, true, false, ◌&&◌, leb, List, [], ◌∷◌, ◌++◌, length, get_or, Result, Ok, Err, Ordering, Less, Equal, Greater, sym, refl, ap, ◌∙◌, subst, ap₂, ⊎_elim, arith}
+use Rattle.std.proofs.lemmas.Cmp.{on_total, then_total, nat_list_cmp_total, tied_itself}
 use Rattle.std.proofs.lemmas.List.Edits.{length-insert, get_or-insert_below, get_or-insert_at, get_or-insert_above}
-use Rattle.std.proofs.lemmas.List.{length_push, get_or_push, get_or_append_left}
-use Rattle.std.proofs.lemmas.Bool.{cases_order, cases_lt, and_parts, and_from, or_left, or_right, or_cases, leb-true, le-leb, cond-true, cond-false, false≢true}
+use Rattle.std.proofs.lemmas.List.Sorted.{searchable_from_sorted}
+use Rattle.std.proofs.lemmas.List.{length_push, get_or_push, get_or_append_left, get_or_default}
+use Rattle.std.proofs.lemmas.Bool.{cases_order, cases_lt, and_parts, and_from, leb-true, le-leb, false≢true}
+use Rattle.std.proofs.lemmas.Bool.Decides.{nat_tests}
 use Rattle.std.specs.List.{insert}
-use Rattle.std.specs.Cmp.{IsTotalOrder, ranks, then_total, on_total, nat_cmp_total}
-use Rattle.std.specs.Ordering.{is_lt, ordering_reverse, ordering_then, MatchOrdering, nat_cmp}
+use Rattle.std.specs.List.Sorted.{IsSearchInRange, IsBinarySearchResult}
+use Rattle.std.specs.Cmp.{IsTotalOrder}
+use Rattle.std.specs.Cmp.Lexicographic.{lists_ties, bytes_decides}
+use Rattle.std.specs.Ordering.{is_lt, is_eq, ordering_reverse, ordering_then, nat_cmp}
 use Rattle.model.specs.declared.decision.Decision.TheVariants.{Permit, Deny}
-use Rattle.model.specs.declared.decision.Status.TheVariants.{Ok}
-use Rattle.model.specs.Lists.{any}
+use Rattle.model.specs.declared.decision.Status.TheVariants as status
+use Rattle.model.specs.Lists.{any, At}
+use Rattle.model.proofs.Positions.{at_mem, mem_at, at_below, at_get_d, get_d_at}
+use Rattle.model.proofs.Members.{any_some, some_any}
 use Rattle.model.specs.Points.{answers}
 use Rattle.model.specs.PointFiles.{Line, same_line, first_line}
-use Rattle.grants.specs.Order.{by_bytes, compared, no_line, line_at, stands_for, Indexed, Parts, Stands}
-use Rattle.grants.proofs.Meant.{line_is, line_self}
-use Rattle.std.specs.Cmp.Lexicographic.{lists_total}
+use Rattle.grants.specs.Order.{by_bytes, compared, no_line, line_at, stands_for, Indexed, Parts, Stands, Placed}
+use Rattle.grants.proofs.Meant.{line_is, line_self, first_at, first_nowhere}
 
 -- COMPARING
 
-bytes_equal : (s t : List ℕ) → by_bytes s t ≡ Equal → s ≡ t
-bytes_equal [] [] h = refl
-bytes_equal [] (y ∷ ys) h = let z : ◌≡◌ {A = ℕ} 0 1 = cc in absurd (omega arith)
-bytes_equal (x ∷ xs) [] h = let z : ◌≡◌ {A = ℕ} 0 1 = cc in absurd (omega arith)
-bytes_equal (x ∷ xs) (y ∷ ys) h = go (bytes_equal xs ys) (nat_cmp x y) (ranks x y) h
-  where
-    go : (by_bytes xs ys ≡ Equal → xs ≡ ys) → (o : Ordering) → MatchOrdering o (x < y) (x ≡ y) (y < x) → ordering_then o (by_bytes xs ys) ≡ Equal → x ∷ xs ≡ y ∷ ys
-    go rest Less r e = let z : ◌≡◌ {A = ℕ} 0 1 = cc in absurd (omega arith)
-    go rest Equal r e = ap₂ (λ (a : ℕ) (l : List ℕ). a ∷ l) r (rest e)
-    go rest Greater r e = let z : ◌≡◌ {A = ℕ} 0 1 = cc in absurd (omega arith)
+by_bytes_equal : (s t : List ℕ) → by_bytes s t ≡ Equal → s ≡ t
+by_bytes_equal s t h = (bytes_decides s t).0 (lists_ties nat_cmp (λ x y. grind (arith, nat_tests)) s t ∙ ap is_eq h)
 
 both_equal : (a b : Ordering) → ordering_then a b ≡ Equal → (a ≡ Equal) × (b ≡ Equal)
-both_equal Less b h = let z : ◌≡◌ {A = ℕ} 0 1 = cc in absurd (omega arith)
+both_equal Less b h = absurd (cc)
 both_equal Equal b h = (refl, h)
-both_equal Greater b h = let z : ◌≡◌ {A = ℕ} 0 1 = cc in absurd (omega arith)
+both_equal Greater b h = absurd (cc)
 
 pub compared_equal : (l m : Line) → compared l m ≡ Equal → l ≡ m
 compared_equal l m h =
     let p = both_equal _ _ h in
     let q = both_equal _ _ p.1 in
-    let make : List ℕ → List ℕ → Line = λ s a. record { subject = s; action = a; resource = l.resource } in
-    let last : List ℕ → Line = λ r. record { subject = m.subject; action = m.action; resource = r } in
-    ap₂ make (bytes_equal _ _ p.0) (bytes_equal _ _ q.0) ∙ ap last (bytes_equal _ _ q.1)
+    let s = by_bytes_equal _ _ p.0 in
+    let a = by_bytes_equal _ _ q.0 in
+    let r = by_bytes_equal _ _ q.1 in
+    λ i. record { subject = s i; action = a i; resource = r i }
 
-abbrev key : Line → List ℕ × (List ℕ × List ℕ)
-key l = (l.subject, (l.action, l.resource))
-
-key_total : IsTotalOrder (λ (p q : List ℕ × (List ℕ × List ℕ)). ordering_then (by_bytes p.0 q.0) (ordering_then (by_bytes p.1.0 q.1.0) (by_bytes p.1.1 q.1.1)))
-key_total =
-    let bytes = lists_total nat_cmp_total in
-    then_total (on_total (λ p. p.0) bytes) (on_total (λ p. p.1) (then_total (on_total (λ p. p.0) bytes) (on_total (λ p. p.1) bytes)))
+compared_total : IsTotalOrder compared
+compared_total = then_total (on_total (λ l. l.subject) nat_list_cmp_total) (then_total (on_total (λ l. l.action) nat_list_cmp_total) (on_total (λ l. l.resource) nat_list_cmp_total))
 
 turned : (l m : Line) (o : Ordering) → compared l m ≡ o → compared m l ≡ ordering_reverse o
-turned l m o h = key_total.antisymm (key m) (key l) ∙ ap ordering_reverse h
-
-chained : (l m n : Line) → compared l m ≡ Less → compared m n ≡ Less → compared l n ≡ Less
-chained l m n = key_total.trans (key l) (key m) (key n)
+turned l m o h = compared_total.antisymm m l ∙ ap ordering_reverse h
 
 is_less : (o : Ordering) → is_lt o ≡ true → o ≡ Less
 is_less Less h = refl
 is_less Equal h = absurd (false≢true h)
 is_less Greater h = absurd (false≢true h)
 
-itself : (l : Line) → compared l l ≡ Equal
-itself l = go (compared l l) (turned l l (compared l l) refl)
-  where
-    go : (o : Ordering) → o ≡ ordering_reverse o → o ≡ Equal
-    go Less h = let z : ◌≡◌ {A = ℕ} 0 1 = cc in absurd (omega arith)
-    go Equal h = refl
-    go Greater h = let z : ◌≡◌ {A = ℕ} 0 1 = cc in absurd (omega arith)
-
 unequal : (o : Ordering) (l m : Line) → compared l m ≡ o → (o ≡ Equal → ⊥) → l ≡ m → ⊥
-unequal o l m h f e = f (sym h ∙ ap (λ n. compared n m) e ∙ itself m)
-
-not_less : Less ≡ Equal → ⊥
-not_less e = let z : ◌≡◌ {A = ℕ} 0 1 = cc in omega arith
-
-not_greater : Greater ≡ Equal → ⊥
-not_greater e = let z : ◌≡◌ {A = ℕ} 0 1 = cc in omega arith
+unequal o l m h f e = f (sym h ∙ ap (λ n. compared n m) e ∙ tied_itself compared_total m)
 
 -- ONE OF THEM
 
 any_where : (p : ℕ → Bool) (xs : List ℕ) → any p xs ≡ true → (i : ℕ) × (i < length xs) × (p (get_or xs i 0) ≡ true)
-any_where p [] h = absurd (false≢true h)
-any_where p (x ∷ xs) h = ⊎_elim
-    (λ e. (0, omega arith, e))
-    (λ e. let r = any_where p xs e in (suc r.0, omega (arith, r.1), r.2))
-    (or_cases (p x) (any p xs) h)
+any_where p xs h =
+    let r = any_some p xs h in
+    let m = mem_at r.0 xs r.1 in
+    (m.0, at_below m.1, ap p (at_get_d 0 m.1) ∙ r.2)
 
 any_there : (p : ℕ → Bool) (xs : List ℕ) (i : ℕ) → i < length xs → p (get_or xs i 0) ≡ true → any p xs ≡ true
-any_there p [] i h e = absurd (omega arith)
-any_there p (x ∷ xs) zero h e = or_left (p x) (any p xs) e
-any_there p (x ∷ xs) (suc i) h e = or_right (p x) (any p xs) (any_there p xs i (omega arith) e)
-
--- THE FIRST LINE
+any_there p xs i h e = some_any p (get_or xs i 0) xs (at_mem (get_d_at 0 i xs h)) e
 
 same_by : (l q : Line) → l ≡ q → same_line l q ≡ true
 same_by l q e = subst (λ m. same_line l m ≡ true) e (line_self l)
-
-same_not : (l q : Line) → (l ≡ q → ⊥) → same_line l q ≡ false
-same_not l q h = go (same_line l q) refl
-  where
-    go : (b : Bool) → same_line l q ≡ b → same_line l q ≡ false
-    go true e = absurd (h (line_is l q e))
-    go false e = e
-
-first_yes : (q : Line) (k : ℕ) (ls : List Line) (n : ℕ) → n < length ls → get_or ls n no_line ≡ q → ((m : ℕ) → m < n → get_or ls m no_line ≡ q → ⊥) → first_line q k ls ≡ answers Permit Ok (k + n)
-first_yes q k [] n h e f = absurd (omega arith)
-first_yes q k (l ∷ ls) zero h e f = cond-true (same_line l q) _ _ (same_by l q e) ∙ ap (answers Permit Ok) (sym (add-zero k))
-first_yes q k (l ∷ ls) (suc n) h e f =
-    let s : k + 1 + n ≡ k + suc n = omega arith in
-    cond-false (same_line l q) _ _ (same_not l q (f 0 (omega arith))) ∙ first_yes q (k + 1) ls n (omega arith) e (λ m o. f (suc m) (omega arith)) ∙ ap (answers Permit Ok) s
-
-first_none : (q : Line) (k : ℕ) (ls : List Line) → ((n : ℕ) → n < length ls → get_or ls n no_line ≡ q → ⊥) → first_line q k ls ≡ answers Deny Ok 0
-first_none q k [] h = refl
-first_none q k (l ∷ ls) h = cond-false (same_line l q) _ _ (same_not l q (h 0 (omega arith))) ∙ first_none q (k + 1) ls (λ n o. h (suc n) (omega arith))
 
 -- WHAT A SEARCH FINDS
 
@@ -120,17 +74,18 @@ module _ (lines : List Line) (order : List ℕ) (x : Indexed lines order) (q : L
   abbrev at : ℕ → Line
   at i = line_at lines order i
 
-  pub all_less : (i : ℕ) → i < length order → compared (at i) q ≡ Less → (k : ℕ) → k < i + 1 → compared (at k) q ≡ Less
-  all_less i h e k l = ⊎_elim
-      (λ s. subst (λ j. compared (at j) q ≡ Less) (sym s) e)
-      (⊎_elim (λ b. chained (at k) (at i) q (is_less _ (x.ascending k i (b, h))) e) (λ b. absurd (omega arith)))
-      (cases_order k i)
+  later_not_less : (k : ℕ) (d : ℕ) → 0 ≤ k → k + 1 < length order → is_lt (compared (get_or lines (get_or order (k + 1) d) no_line) (get_or lines (get_or order k d) no_line)) ≡ false
+  later_not_less k d low h =
+      let here = ap (λ n. get_or lines n no_line) (get_or_default order k d 0 (omega arith)) in
+      let next = ap (λ n. get_or lines n no_line) (get_or_default order (k + 1) d 0 h) in
+      ap₂ (λ l m. is_lt (compared l m)) next here ∙ ap is_lt (turned (at k) (at (k + 1)) Less (is_less _ (x.ascending k (k + 1) (omega arith, h))))
 
-  pub all_greater : (i : ℕ) → i < length order → compared (at i) q ≡ Greater → (k : ℕ) → i ≤ k → k < length order → compared (at k) q ≡ Greater
-  all_greater i h e k l b = ⊎_elim
-      (λ s. subst (λ j. compared (at j) q ≡ Greater) s e)
-      (⊎_elim (λ u. turned q (at k) Less (chained q (at i) (at k) (turned (at i) q Greater e) (is_less _ (x.ascending i k (u, b))))) (λ u. absurd (omega arith)))
-      (cases_order i k)
+  -- a binary search finds the place
+  pub searched : (r : Result ℕ ℕ) → IsSearchInRange r (length order) → IsBinarySearchResult (λ n. compared (get_or lines n no_line) q) order r → Placed lines order q r
+  searched (Ok i) h p = record { high = h; here = compared_equal _ _ (p 0) }
+  searched (Err i) h p =
+      let s = p (searchable_from_sorted compared_total (λ n. get_or lines n no_line) order q later_not_less) in
+      record { high = h; below = λ k l. s.0 k 0 (omega arith) l; above = λ k l u. s.1 k 0 l u }
 
   -- the place in the order of a line like q: its number is no greater
   held : (n : ℕ) → n < length lines → get_or lines n no_line ≡ q → (i : ℕ) × (i < length order) × (get_or order i 0 ≤ n) × (at i ≡ q)
@@ -139,24 +94,24 @@ module _ (lines : List Line) (order : List ℕ) (x : Indexed lines order) (q : L
       let b = and_parts (leb (get_or order r.0 0) n) _ r.2 in
       (r.0, r.1, leb-true _ _ b.0, line_is _ _ b.1 ∙ e)
 
-  pub none_granted : (i : ℕ) → Parts lines order q i → first_line q 0 lines ≡ answers Deny Ok 0
-  none_granted i p = first_none q 0 lines (λ n h e. let j = held n h e in nowhere j.0 j.1 j.3)
+  pub none_granted : (i : ℕ) → Parts lines order q i → first_line q 0 lines ≡ answers Deny status.Ok 0
+  none_granted i p = first_nowhere q 0 lines (λ m a. let j = held m (at_below a) (at_get_d no_line a) in nowhere j.0 j.1 j.3)
     where
       nowhere : (k : ℕ) → k < length order → at k ≡ q → ⊥
       nowhere k h = ⊎_elim
-          (λ l. unequal Less (at k) q (p.below k l) not_less)
-          (λ l. unequal Greater (at k) q (p.above k l h) not_greater)
+          (λ l. unequal Less (at k) q (p.below k l) (λ e. cc))
+          (λ l. unequal Greater (at k) q (p.above k l h) (λ e. cc))
           (cases_lt k i)
 
-  pub first_granted : (i : ℕ) → Stands lines order q i → first_line q 0 lines ≡ answers Permit Ok (get_or order i 0)
+  pub first_granted : (i : ℕ) → Stands lines order q i → first_line q 0 lines ≡ answers Permit status.Ok (get_or order i 0)
   first_granted i s =
       let n = get_or order i 0 in
       let z : 0 + n ≡ n = omega arith in
-      first_yes q 0 lines n (x.inside i s.high) s.here
-      (λ m l e. let j = held m (omega (arith, x.inside i s.high)) e in earlier m l j.0 j.1 j.2 j.3) ∙ ap (answers Permit Ok) z
+      let here = subst (λ l. At n l lines) s.here (get_d_at no_line n lines (x.inside i s.high)) in
+      first_at q 0 n lines here (λ m l a. let j = held m (at_below a) (at_get_d no_line a) in earlier m l j.0 j.1 j.2 j.3) ∙ ap (answers Permit status.Ok) z
     where
       apart : (a b : ℕ) → a < b → b < length order → at a ≡ q → at b ≡ q → ⊥
-      apart a b l h e f = unequal Less (at a) (at b) (is_less _ (x.ascending a b (l, h))) not_less (e ∙ sym f)
+      apart a b l h e f = unequal Less (at a) (at b) (is_less _ (x.ascending a b (l, h))) (λ e. cc) (e ∙ sym f)
 
       earlier : (m : ℕ) → m < get_or order i 0 → (j : ℕ) → j < length order → get_or order j 0 ≤ m → at j ≡ q → ⊥
       earlier m l j h k e = ⊎_elim

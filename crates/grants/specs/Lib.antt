@@ -1,6 +1,7 @@
 pub mod Refused
 pub mod Held
 pub mod Order
+pub mod Texts
 pub mod Ordered
 pub mod Place
 pub mod Found

@@ -1,4 +1,4 @@
-ghost use Rattle.grants.specs.Order.{lines_behind, InsideOf, Ascending, Complete};
+ghost use Rattle.grants.specs.Order.{Indexed, lines_behind};
 
 use crate::lines::Lines;
 
@@ -8,7 +8,5 @@ pub struct Grants<'a> {
     pub(crate) bytes: &'a [u8],
     pub(crate) index: Lines,
     pub(crate) spare: Lines,
-    ghost inside: { InsideOf (lines_behind bytes index.lines.items) index.order.items },
-    ghost ascending: { Ascending (lines_behind bytes index.lines.items) index.order.items },
-    ghost complete: { Complete (lines_behind bytes index.lines.items) index.order.items },
+    ghost indexed: { Indexed (lines_behind bytes index.lines.items) index.order.items },
 }

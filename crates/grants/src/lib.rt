@@ -3,12 +3,13 @@
 mod bisect;
 pub mod deciding;
 pub mod fault;
-pub mod found;
 pub mod grants;
 pub mod line;
 pub mod lines;
 pub mod opening;
 mod read;
+mod table;
+mod texts;
 pub mod theorems;
 
 #[cfg(test)]
@@ -16,6 +17,7 @@ mod tests {
     use crate::grants::Grants;
     use decision::point::DecisionPoint;
     use model::decision::Decision;
+    use model::refusal::Refusal;
     use request::request::Request;
     use single::single::SingleRequest;
     use std::test::Fail;
@@ -75,7 +77,7 @@ mod tests {
         let Err(fault) = grants.open(&LINES[0..19]) else {
             return Err(Fail::new("it was accepted"));
         };
-        let refusal = fault.refusal();
+        let refusal = Refusal::from(fault);
         assert!(rt; refusal.defect.number() == 11 && refusal.layer() == 2 && refusal.place == 19);
         Ok(())
     }

@@ -6,7 +6,7 @@ use crate::line::Line;
 #[derive(Drop)]
 pub struct Lines {
     pub lines: Vec<Line>,
-    // The first line of each kind, by number, in the order of their texts.
+    // The first line of each kind, by number, in the order of their texts. A list and no map: reading grants allocates nothing.
     pub order: Vec<usize>,
     ghost few: { vec_len lines ≤ 1024 },
     ghost room: { 1024 ≤ vec_capacity lines },

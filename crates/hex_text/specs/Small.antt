@@ -3,7 +3,7 @@ use Rattle.std.specs.Prelude.{◌<◌}
 use Rattle.hex_text.specs.declared.turn.Mode.{Mode}
 use Rattle.hex_text.specs.declared.turn.Mode.TheVariants.{Between, FirstDigit, Comment}
 use Rattle.hex_text.specs.declared.turn.Turn.{Turn}
-use Rattle.hex_text.specs.declared.turn.Turn.TheVariants.{Goes, EndsLine, Gives, Bad}
+use Rattle.hex_text.specs.declared.turn.Turn.TheVariants.{Goes, EndsLine, Gives}
 
 abbrev pub Small : Mode → Type 0
 Small Between = Unit {0}
@@ -14,4 +14,3 @@ abbrev pub SmallAfter : Turn → Type 0
 SmallAfter (Goes mode) = Small mode
 SmallAfter EndsLine = Unit {0}
 SmallAfter (Gives byte) = Unit {0}
-SmallAfter Bad = Unit {0}

@@ -29,7 +29,7 @@ pub fn decode(heap: Global, text: &[u8]) -> Result<Vec<u8>, HexFault>
     let mut mode = Mode::Between;
     let mut line = 0;
     for character in text {
-        match next_turn(mode, *character) {
+        match next_turn(mode, *character).ok_or(HexFault::Line(line))? {
             Turn::Goes(next) => mode = next,
             Turn::EndsLine => {
                 mode = Mode::Between;
@@ -39,7 +39,6 @@ pub fn decode(heap: Global, text: &[u8]) -> Result<Vec<u8>, HexFault>
                 mode = Mode::Between;
                 bytes.push(byte)?;
             }
-            Turn::Bad => return Err(HexFault::Line(line)),
         }
     }
     match mode {

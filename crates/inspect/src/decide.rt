@@ -1,135 +1,102 @@
-use crate::file::read;
-use commandline::command::{Kind, Source};
+use crate::file::File;
+use crate::opened::Opened;
+use commandline::command::{PointKind, Source};
 use decision::point::DecisionPoint;
 use grants::grants::Grants;
-use model::decision::{Decision, Status};
+use model::codes::{RESOURCE, SCOPE};
+use report::console::Console;
 use report::failed::Failed;
-use report::print::refused::refuse;
-use report::words;
 use request::content::Element;
 use request::request::Request;
 use rule_policy::policy::RulePolicy;
 use single::single::SingleRequest;
-use single::value::same_bytes;
-
-const RESOURCE: u8 = 1;
-
-const SCOPE: u8 = 2;
+use std::array::from_fn;
+use std::fmt;
 
 // What a decision point answers to a request that is a single one already.
-pub fn decide(rt: &HostRuntime, file: &str, source: &Source, tsv: bool) -> Result<(), Failed> {
-    let point = read(rt, source.file.as_str())?;
-    let request = read(rt, file)?;
-    let asked = Asked {
-        file,
-        bytes: request.as_slice(),
-        tsv,
-    };
-    match source.kind {
-        Kind::Rules => by_rules(rt, source.file.as_str(), point.as_slice(), asked),
-        _ => by_grants(rt, source.file.as_str(), point.as_slice(), asked),
-    }
-}
-
-// A request file, and how the answer is to be printed.
-#[derive(Clone, Copy)]
-struct Asked<'a> {
-    file: &'a str,
-    bytes: &'a [u8],
-    tsv: bool,
-}
-
-fn by_rules(rt: &HostRuntime, file: &str, bytes: &[u8], asked: Asked) -> Result<(), Failed> {
-    let mut policy = RulePolicy::new(rt.alloc())?;
-    match policy.open(bytes) {
-        Ok(()) => ask(rt, &policy, asked),
-        Err(fault) => refuse(rt, "point", file, &fault.refusal(), asked.tsv),
-    }
-}
-
-fn by_grants(rt: &HostRuntime, file: &str, bytes: &[u8], asked: Asked) -> Result<(), Failed> {
-    let mut grants = Grants::new(rt.alloc())?;
-    match grants.open(bytes) {
-        Ok(()) => ask(rt, &grants, asked),
-        Err(fault) => refuse(rt, "point", file, &fault.refusal(), asked.tsv),
-    }
-}
-
-fn ask<P: DecisionPoint>(rt: &HostRuntime, point: &P, asked: Asked) -> Result<(), Failed> {
-    let mut request = Request::new(rt.alloc())?;
-    match request.open(asked.bytes) {
-        Ok(()) => ask_about(rt, point, &request, asked),
-        Err(fault) => refuse(rt, "request", asked.file, &fault.refusal(), asked.tsv),
-    }
-}
-
-fn ask_about<P: DecisionPoint>(
-    rt: &HostRuntime,
-    point: &P,
-    request: &Request,
-    asked: Asked,
+pub fn decide(
+    console: Console<'_>,
+    request: &str,
+    source: &Source<PointKind>,
 ) -> Result<(), Failed> {
-    if let Some(why) = several(request) {
-        let file = asked.file;
-        eprintln!(rt; "vamluyak: {file} is not a single request: {why}")?;
+    let point = File::read(console.rt, source.file.as_str())?;
+    let request = File::read(console.rt, request)?;
+    match source.kind {
+        PointKind::Rules => ask::<RulePolicy<'_>>(console, &point, &request),
+        PointKind::Grants => ask::<Grants<'_>>(console, &point, &request),
+    }
+}
+
+fn ask<'a, P: Opened<'a> + DecisionPoint>(
+    console: Console<'_>,
+    point: &'a File<'_>,
+    file: &File<'_>,
+) -> Result<(), Failed> {
+    let point: P = point.open(console)?;
+    let request: Request<'_> = file.open(console)?;
+    if let Some(why) = why_not_single(&request) {
+        let name = file.name;
+        eprintln!(console.rt; "vamluyak: {name} is not a single request: {why}")?;
         return Err(Failed);
     }
-    let chosen = [0u8, 1, 2, 3, 4, 5, 6, 7, 8, 9, 10, 11, 12, 13, 14, 15];
     let count = request.elements().len().min(16) as u8;
-    let Some(single) = SingleRequest::new(request, chosen, count) else {
+    let Some(single) = SingleRequest::new(&request, from_fn(|i| i as u8), count) else {
         return Err(Failed);
     };
     let (decision, status, place) = point.decide(&single);
-    print_answer(rt, decision, status, place, asked.tsv)
-}
-
-fn print_answer(
-    rt: &HostRuntime,
-    decision: Decision,
-    status: Status,
-    place: u16,
-    tsv: bool,
-) -> Result<(), Failed> {
-    let decision = words::decision(decision);
-    let status = words::status(status);
-    if tsv {
-        return Ok(println!(rt; "{decision}\t{status}\t{place}")?);
+    if console.tsv {
+        println!(console.rt; "{decision}\t{status}\t{place}")?;
+    } else {
+        println!(console.rt; "{decision}, status {status}, place {place}")?;
     }
-    Ok(println!(rt; "{decision}, status {status}, place {place}")?)
+    Ok(())
 }
 
-// Why a request asks for more than one decision, if it does.
-fn several(request: &Request) -> Option<&'static str> {
+// Why a request asks for more than one decision.
+#[derive(Clone, Copy, Debug, PartialEq)]
+enum NotSingle {
+    References,
+    Category,
+    Scope,
+}
+
+impl fmt::Display for NotSingle {
+    fn fmt<W: fmt::Write>(&self, f: &mut fmt::Formatter<W>) -> fmt::Result {
+        f.write_str(match self {
+            NotSingle::References => "it has references",
+            NotSingle::Category => "a category is repeated",
+            NotSingle::Scope => "its resource has a scope other than Immediate",
+        })
+    }
+}
+
+fn why_not_single(request: &Request) -> Option<NotSingle> {
     if request.references().is_some() {
-        return Some("it has references");
+        return Some(NotSingle::References);
     }
-    let elements = request.elements();
-    for (number, element) in elements.iter().enumerate() {
-        if count_of(elements, element.category) > 1 {
-            return Some("a category is repeated");
-        }
-        if element.category == RESOURCE && asks_for_more(request, number) {
-            return Some("its resource has a scope other than Immediate");
-        }
-    }
-    None
+    request.elements().iter().enumerate().find_map(|(number, element)| why_not_by(
+        request,
+        number,
+        element.category,
+    ))
 }
 
-fn count_of(elements: &[Element], category: u8) -> usize {
-    let mut count = 0usize;
-    for element in elements {
-        if element.category == category {
-            count = count.saturating_add(1);
-        }
+// The same, by the element of this number.
+fn why_not_by(request: &Request, number: usize, category: u8) -> Option<NotSingle> {
+    if is_repeated(request.elements(), category) {
+        Some(NotSingle::Category)
+    } else if category == RESOURCE && asks_for_more(request, number) {
+        Some(NotSingle::Scope)
+    } else {
+        None
     }
-    count
+}
+
+fn is_repeated(elements: &[Element], category: u8) -> bool {
+    elements.iter().filter(|e| e.category == category).count() > 1
 }
 
 fn asks_for_more(request: &Request, number: usize) -> bool {
-    for attribute in request.attributes(number) {
-        if attribute.id == SCOPE && !same_bytes(request.text(attribute.value), b"Immediate") {
-            return true;
-        }
-    }
-    false
+    request.attributes(number).iter().any(|a| a.id == SCOPE
+        && request.text(a.value) != b"Immediate".as_slice())
 }

@@ -4,3 +4,4 @@ pub mod below;
 pub mod check;
 pub mod decide;
 pub mod file;
+pub mod opened;

@@ -1,4 +1,5 @@
 pub mod Numbers
+pub mod Words
 pub mod Layout
 pub mod Refused
 pub mod Order

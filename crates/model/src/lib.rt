@@ -1,6 +1,7 @@
 #![tactic(auto)]
 
 pub mod call;
+pub mod codes;
 pub mod decision;
 pub mod item;
 pub mod refusal;

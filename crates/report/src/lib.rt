@@ -1,5 +1,6 @@
 #![tactic(auto)]
 
+pub mod console;
 pub mod failed;
 pub mod print;
 pub mod text;

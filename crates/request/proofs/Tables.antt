@@ -92,7 +92,7 @@ element_by_part bytes old new e p = let f : List Attribute → content.Element =
 reference_by_part : (old new : List ℕ) (s : Span) → part new (whole_span s) ≡ part old (whole_span s) → part new s ≡ part old s
 reference_by_part old new s p = p
 
-pub elements_push : (bytes : List ℕ) (m : ℕ) (l w : Vec Element Global) (t u : Vec Attribute Global) (e : Element) → Grows m t u → reach element_span (vec_items l) ≤ vec_len t → vec_items w ≡ vec_items l ++ e ∷ [] → elements_in bytes w u ≡ elements_in bytes l t ++ element_at bytes u e ∷ []
+pub elements_push : (bytes : List ℕ) (m : ℕ) (l w : Vec Element Global) (t u : Vec Attribute Global) (e : Element) → Grows m t u → reach element_span (vec_items l) ≤ vec_len t → vec_items w ≡ vec_items l ++ e ∷ [] → elements_in bytes w u ≡ elements_in bytes l t ++ element_at u bytes e ∷ []
 elements_push bytes = held_push element_span (element_of_held bytes) (element_by_part bytes)
 
 pub references_push : (m : ℕ) (l w : Vec Span Global) (t u : Vec ℕ Global) (s : Span) → Grows m t u → reach whole_span (vec_items l) ≤ vec_len t → vec_items w ≡ vec_items l ++ s ∷ [] → references_in w u ≡ references_in l t ++ tags_at u s ∷ []

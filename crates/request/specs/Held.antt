@@ -29,11 +29,11 @@ element_of_held bytes pool e = record { category = e.category; tag = e.tag; attr
 abbrev pub elements_of_held : List ℕ → List HeldAttribute → List HeldElement → List Element
 elements_of_held bytes pool es = list.map (element_of_held bytes pool) es
 
-abbrev pub attributes_at : List ℕ → Vec HeldAttribute Global → Span → List Attribute
-attributes_at bytes table s = attributes_of_held bytes (part (vec_items table) s)
+abbrev pub attributes_at : Vec HeldAttribute Global → List ℕ → Span → List Attribute
+attributes_at table bytes s = attributes_of_held bytes (part (vec_items table) s)
 
-abbrev pub element_at : List ℕ → Vec HeldAttribute Global → HeldElement → Element
-element_at bytes table e = element_of_held bytes (vec_items table) e
+abbrev pub element_at : Vec HeldAttribute Global → List ℕ → HeldElement → Element
+element_at table bytes e = element_of_held bytes (vec_items table) e
 
 abbrev pub tag_held : HeldElement → Option ℕ
 tag_held e = e.tag

@@ -1,7 +1,7 @@
 use wire::span::Span;
 
 // An attribute; its texts are parts of the request's bytes.
-#[derive(Clone, Copy)]
+#[derive(Clone, Copy, Debug, PartialEq)]
 pub struct Attribute {
     pub included: bool,
     pub id: u8,
@@ -10,8 +10,8 @@ pub struct Attribute {
     pub value: Span,
 }
 
-// An element; its attributes stand in a row in the table of all.
-#[derive(Clone, Copy)]
+// An element; its attributes stand in a row in the table of all: a list of its own would want memory at opening.
+#[derive(Clone, Copy, Debug, PartialEq)]
 pub struct Element {
     pub category: u8,
     pub tag: Option<u8>,

@@ -9,6 +9,7 @@ use wire::span::Span;
 #[derive(Drop)]
 pub struct Index {
     pub combined: bool,
+    // Beside the references and not around them: their room stays reserved where a request has none.
     pub referenced: bool,
     pub elements: Vec<Element>,
     pub attributes: Vec<Attribute>,

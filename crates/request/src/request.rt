@@ -73,14 +73,10 @@ impl<'a> Request<'a> {
     pub fn attributes(&self, number: usize) -> &[Attribute]
         ensures { attributes_of_held (bytes_of self.now) result.now ≡ attributes_of number (content_of self.now).elements }
     {
-        let elements = self.index.elements.as_slice();
-        if number >= elements.len() {
-            return &[];
+        match self.index.elements.get(number) {
+            Some(element) => part(self.index.attributes.as_slice(), element.attributes),
+            None => &[],
         }
-        part(
-            self.index.attributes.as_slice(),
-            elements[number].attributes,
-        )
     }
 
     // The references, each by its tags' span.

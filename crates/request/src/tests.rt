@@ -9,7 +9,7 @@ fn refused(heap: Global, bytes: &[u8]) -> Result<Option<Refusal>, AllocError> {
     let mut request = Request::new(heap)?;
     match request.open(bytes) {
         Ok(()) => Ok(None),
-        Err(fault) => Ok(Some(fault.refusal())),
+        Err(fault) => Ok(Some(Refusal::from(fault))),
     }
 }
 

@@ -7,10 +7,7 @@ use std::alloc::{AllocError, Global};
 use tree::Tree;
 use tree_files::linked::LinkedTree;
 
-// No enquiry has more rows.
-const MOST_ROWS: u32 = 16 * 324 * 1024;
-
-#[derive(Clone, Copy)]
+#[derive(Clone, Copy, Debug, PartialEq)]
 pub struct Counted {
     pub rows: u64,
     pub permits: u64,
@@ -29,10 +26,7 @@ fn with_row(checksum: u64, row: &Row) -> u64 {
             sum = mixed(sum, u64::from(*position));
         }
     }
-    let node = match row.node {
-        Some(node) => (node as u64).wrapping_add(1),
-        None => 0,
-    };
+    let node = row.node.map_or(0, |node| (node as u64).wrapping_add(1));
     sum = mixed(sum, node);
     sum = mixed(sum, u64::from(row.decision.number()));
     sum = mixed(sum, u64::from(row.status.number()));
@@ -47,12 +41,9 @@ fn count_rows<T: Tree, P: DecisionPoint>(
     let mut rows = 0u64;
     let mut permits = 0u64;
     let mut checksum = 0;
-    for _ in 0..MOST_ROWS {
-        let Ok(row) = enquiry.step(tree, point) else {
-            break;
-        };
+    for row in enquiry.rows(tree, point) {
         rows = rows.saturating_add(1);
-        permits = permits.saturating_add(u64::from(matches!(row.decision, Decision::Permit)));
+        permits = permits.saturating_add(u64::from(row.decision == Decision::Permit));
         checksum = with_row(checksum, &row);
     }
     Counted {

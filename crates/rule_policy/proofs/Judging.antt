@@ -2,11 +2,11 @@
 use Rattle.std.proofs.Common.{◌≡◌, ℕ, ◌+◌, ◌<◌, ◌≤◌, Bool, true, false, cond, ◌&&◌, ◌||◌, List, [], ◌∷◌, ◌++◌, map, length, get_or, drop, Some, sym, refl, ap, ◌∙◌, ap₂}
 use Rattle.std.specs.Option.{option_map}
 use Rattle.std.proofs.lemmas.List.{at_drop_more, at_drop_all}
-use Rattle.std.proofs.lemmas.Bool.{cond-true, cond-false, and_right}
+use Rattle.std.proofs.lemmas.Bool.{cond-true, cond-false}
 use Rattle.model.specs.Content.{Attribute, Element}
 use Rattle.model.specs.Lists.{keep, nth}
 use Rattle.model.specs.Values.{same}
-use Rattle.model.specs.PointFiles.{Condition, Truth, met, unmet, unknown, comparable, in_category, some_has, has_none, truth, both, all_of}
+use Rattle.model.specs.PointFiles.{Condition, Truth, met, unmet, unknown, comparable, some_has, has_none, truth, both, all_of}
 use Rattle.single.specs.declared.seen.Seen.{Seen}
 use Rattle.single.specs.declared.single.SingleRequest.{SingleRequest}
 use Rattle.single.specs.Shown.{value_at, attribute_seen}
@@ -47,18 +47,6 @@ module _ (c : Condition) (compared : Bool) (a : Attribute) (xs : List Attribute)
       ap (verdict c compared) (cond-true _ _ _ e)
       ∙ ap₂ (λ t u. cond (t || some_has c.value (keep (comparable c) xs)) met (cond (u && c.required) unknown unmet)) f (none_more compared)
 
-pub left_unknown : (c : Condition) (b : Bool) → c.required ≡ true → b ≡ false → judge c b [] ≡ unknown
-left_unknown c b e f = ap₂ (λ u r. cond (none_in u [] && r) unknown unmet) f e
-
-pub left_compared : (c : Condition) (b : Bool) → b ≡ true → judge c b [] ≡ unmet
-left_compared c b f = ap (λ u. cond (none_in u [] && c.required) unknown unmet) f
-
-pub left_optional : (c : Condition) (b : Bool) → c.required ≡ false → judge c b [] ≡ unmet
-left_optional c b e = ap (λ t. cond t unknown unmet) (and_right (none_in b []) c.required e)
-
-pub judge_end : (c : Condition) (b : Bool) (es : List Element) (k i : ℕ) → length es ≤ i → judge c b (in_category k (drop i es)) ≡ judge c b []
-judge_end c b es k i h = at_drop_all (λ l. judge c b (in_category k l)) es i h
-
 -- one attribute more of the i-th element
 module _ (s : SingleRequest) (c : Condition) (b : Bool) (i j : ℕ) (a : Seen) (bs nm : List ℕ) (rest : List Attribute)
     (bs_is : bs ≡ bytes_of s) (nm_is : nm ≡ name_or_none (name_of s)) (at : option_map (seen_in s) (Some a) ≡ nth (attributes_at (content s) i) j) where
@@ -89,34 +77,16 @@ settle false t = both unknown t
 abbrev pub come : List Element → List ℕ → List HeldCondition → Truth
 come es texts xs = all_of (map (truth es) (conditions_of texts xs))
 
-twice : (t : Truth) → both unknown (both unknown t) ≡ both unknown t
-twice met = refl
-twice unmet = refl
-twice unknown = refl
-
 unmet_settles : (k : Bool) → settle k unmet ≡ unmet
 unmet_settles true = refl
 unmet_settles false = refl
 
-unknown_settles : (k : Bool) (t : Truth) → settle k (both unknown t) ≡ both unknown t
-unknown_settles true t = refl
-unknown_settles false t = twice t
-
 module _ (es : List Element) (texts : List ℕ) (cs : List HeldCondition) (i : ℕ) (known : Bool) where
-  module _ (o : HeldCondition) (h : i < length cs) where
-    next : (t : Truth) → t ≡ truth es (condition_of texts (get_or cs i o)) → settle known (come es texts (drop i cs)) ≡ settle known (both t (come es texts (drop (i + 1) cs)))
-    next t e = at_drop_more (λ xs. settle known (come es texts xs)) cs i o h ∙ ap (λ u. settle known (both u (come es texts (drop (i + 1) cs)))) (sym e)
-
-    pub unmet_here : unmet ≡ truth es (condition_of texts (get_or cs i o)) → settle known (come es texts (drop i cs)) ≡ unmet
-    unmet_here e = next unmet e ∙ unmet_settles known
-
-    -- a turn of the loop: k is what `known` comes to
-    module _ (k : Bool) (t : Truth) where
-      pub met_turn : k ≡ known → met ≡ truth es (condition_of texts (get_or cs i o)) → settle known (come es texts (drop i cs)) ≡ t → settle k (come es texts (drop (i + 1) cs)) ≡ t
-      met_turn is e inv = ap (λ b. settle b (come es texts (drop (i + 1) cs))) is ∙ sym (next met e) ∙ inv
-
-      pub unknown_turn : k ≡ false → unknown ≡ truth es (condition_of texts (get_or cs i o)) → settle known (come es texts (drop i cs)) ≡ t → settle k (come es texts (drop (i + 1) cs)) ≡ t
-      unknown_turn is e inv = ap (λ b. settle b (come es texts (drop (i + 1) cs))) is ∙ sym (next unknown e ∙ unknown_settles known (come es texts (drop (i + 1) cs))) ∙ inv
+  pub unmet_here : (o : HeldCondition) → i < length cs → unmet ≡ truth es (condition_of texts (get_or cs i o)) → settle known (come es texts (drop i cs)) ≡ unmet
+  unmet_here o h e =
+      at_drop_more (λ xs. settle known (come es texts xs)) cs i o h
+      ∙ ap (λ u. settle known (both u (come es texts (drop (i + 1) cs)))) (sym e)
+      ∙ unmet_settles known
 
   pub all_judged : length cs ≤ i → settle known (come es texts (drop i cs)) ≡ settle known met
   all_judged h = at_drop_all (λ xs. settle known (come es texts xs)) cs i h

@@ -37,7 +37,7 @@ issued_from (Some t) (Some u) e = ap Some (sym (same_is t u e))
 
 issued_to : (n i : Option (List ℕ)) → Issued n i → issued_by n i ≡ true
 issued_to None i h = refl
-issued_to (Some t) None h = let z : ◌≡◌ {A = ℕ} 0 1 = cc in absurd (omega arith)
+issued_to (Some t) None h = absurd (cc)
 issued_to (Some t) (Some u) h = let q : u ≡ t = cc in subst (λ v. same t v ≡ true) (sym q) (same_self t)
 
 module _ (c : Condition) where

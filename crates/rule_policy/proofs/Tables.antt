@@ -12,5 +12,5 @@ use Rattle.rule_policy.specs.Held.{decides, conditions_of, rule_of, rule_at, rul
 rule_by_part : (bytes : List ℕ) (old new : List Condition) (r : Rule) → part new (rule_span r) ≡ part old (rule_span r) → rule_of bytes new r ≡ rule_of bytes old r
 rule_by_part bytes old new r p = let f : List Condition → files.Rule = λ l. record { effect = decides r.effect; conditions = conditions_of bytes l } in ap f p
 
-pub rules_push : (bytes : List ℕ) (m : ℕ) (l w : Vec Rule Global) (t u : Vec Condition Global) (r : Rule) → Grows m t u → reach rule_span (vec_items l) ≤ vec_len t → vec_items w ≡ vec_items l ++ r ∷ [] → rules_in bytes w u ≡ rules_in bytes l t ++ rule_at bytes u r ∷ []
+pub rules_push : (bytes : List ℕ) (m : ℕ) (l w : Vec Rule Global) (t u : Vec Condition Global) (r : Rule) → Grows m t u → reach rule_span (vec_items l) ≤ vec_len t → vec_items w ≡ vec_items l ++ r ∷ [] → rules_in bytes w u ≡ rules_in bytes l t ++ rule_at u bytes r ∷ []
 rules_push bytes = held_push rule_span (rule_of bytes) (rule_by_part bytes)

@@ -1,5 +1,5 @@
 -- A rule policy's answers keep the status rule and the range of places. Assumes nothing.
-use Rattle.std.specs.Prelude.{◌≡◌, ℕ, ◌+◌, ◌≤◌, List, [], ◌∷◌, length, vec_items, ◌≢◌, refl}
+use Rattle.std.specs.Prelude.{ℕ, ◌+◌, ◌≤◌, List, [], ◌∷◌, length, vec_items, ◌≢◌, refl}
 use mathlib.Core.List as list
 use Rattle.std.proofs.Common.{arith}
 use Rattle.model.specs.declared.decision.Decision.{Decision}
@@ -21,8 +21,8 @@ settled_fits : (d : Decision) (p : ℕ) → (d ≢ Indeterminate) → p ≤ 6553
 settled_fits d p h l = record { status = ((λ _. h), (λ _. refl)); place = l }
 
 effect_settled : (e : Effect) → decides e ≢ Indeterminate
-effect_settled effect.Permit e = let z : ◌≡◌ {A = ℕ} 0 1 = cc in omega arith
-effect_settled effect.Deny e = let z : ◌≡◌ {A = ℕ} 0 1 = cc in omega arith
+effect_settled effect.Permit e = cc
+effect_settled effect.Deny e = cc
 
 open_fits : (s : Status) (p : ℕ) → (s ≢ Ok) → p ≤ 65535 → AnswerFits (answers Indeterminate s p)
 open_fits s p h l = record { status = ((λ e. absurd (h e)), (λ f. absurd (f refl))); place = l }
@@ -30,11 +30,11 @@ open_fits s p h l = record { status = ((λ e. absurd (h e)), (λ f. absurd (f re
 module _ (bytes : List ℕ) (pool : List Condition) where
   rule_fits : (t : Truth) (r : Rule) (n : ℕ) (a : Answer) → n ≤ 65535 → AnswerFits a → AnswerFits (rule_answer (rule_of bytes pool r) n t a)
   rule_fits met r n a l h = settled_fits (decides r.effect) n (effect_settled r.effect) l
-  rule_fits unknown r n a l h = open_fits MissingAttribute n (λ e. let z : ◌≡◌ {A = ℕ} 0 1 = cc in omega arith) l
+  rule_fits unknown r n a l h = open_fits MissingAttribute n (λ e. cc) l
   rule_fits unmet r n a l h = h
 
   rules_fit : (es : List Element) (n : ℕ) (rs : List Rule) → n + length rs ≤ 65536 → AnswerFits (first_rule es n (list.map (rule_of bytes pool) rs))
-  rules_fit es n [] h = settled_fits NotApplicable 0 (λ e. let z : ◌≡◌ {A = ℕ} 0 1 = cc in omega arith) (omega arith)
+  rules_fit es n [] h = settled_fits NotApplicable 0 (λ e. cc) (omega arith)
   rules_fit es n (r ∷ rs) h =
       let here : n ≤ 65535 = omega arith in
       let rest : n + 1 + length rs ≤ 65536 = omega arith in

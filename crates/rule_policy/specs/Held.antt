@@ -35,11 +35,11 @@ conditions_of bytes cs = list.map (condition_of bytes) cs
 abbrev pub rule_of : List ℕ → List HeldCondition → HeldRule → Rule
 rule_of bytes pool r = record { effect = decides r.effect; conditions = conditions_of bytes (part pool r.conditions) }
 
-abbrev pub conditions_at : List ℕ → Vec HeldCondition Global → Span → List Condition
-conditions_at bytes table s = conditions_of bytes (part (vec_items table) s)
+abbrev pub conditions_at : Vec HeldCondition Global → List ℕ → Span → List Condition
+conditions_at table bytes s = conditions_of bytes (part (vec_items table) s)
 
-abbrev pub rule_at : List ℕ → Vec HeldCondition Global → HeldRule → Rule
-rule_at bytes table r = rule_of bytes (vec_items table) r
+abbrev pub rule_at : Vec HeldCondition Global → List ℕ → HeldRule → Rule
+rule_at table bytes r = rule_of bytes (vec_items table) r
 
 abbrev pub rule_span : HeldRule → Span
 rule_span r = r.conditions

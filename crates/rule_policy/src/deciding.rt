@@ -23,11 +23,9 @@ use wire::span::{Span, part};
 fn is_issued_by(named: Option<Span>, texts: &[u8], issuer: Option<Span>, bytes: &[u8]) -> bool
     ensures { result ≡ issued_by (option_map (spanned texts.now) named) (option_map (spanned bytes.now) issuer) }
 {
-    match (named, issuer) {
-        (None, _) => true,
-        (Some(_), None) => false,
-        (Some(named), Some(issuer)) => same_bytes(part(texts, named), part(bytes, issuer)),
-    }
+    named.is_none_or(|named| {
+        issuer.is_some_and(|issuer| same_bytes(part(texts, named), part(bytes, issuer)))
+    })
 }
 
 // Whether a condition compares the value of an attribute of its category.
@@ -47,7 +45,8 @@ fn truth(condition: Condition, texts: &[u8], request: &SingleRequest<'_, '_, '_>
     let wanted = part(texts, condition.value);
     let mut compared = false;
     let mut i = 0;
-    let truth = 'elements: loop {
+    // By index: a single request is a view, with no slice of its elements or their attributes.
+    'elements: loop {
         if i >= request.elements() {
             break 'elements if condition.required && !compared {
                 Truth::Indeterminate
@@ -69,18 +68,25 @@ fn truth(condition: Condition, texts: &[u8], request: &SingleRequest<'_, '_, '_>
             }
         }
         i += 1;
-    };
-    truth
+    }
+}
+
+impl From<Effect> for Decision {
+    ghost from_gives = { λ e d. d ≡ decides e };
+
+    fn from(effect: Effect) -> Decision {
+        match effect {
+            Effect::Permit => Decision::Permit,
+            Effect::Deny => Decision::Deny,
+        }
+    }
 }
 
 impl Effect {
     pub fn decision(self) -> Decision
         ensures { result ≡ decides self }
     {
-        match self {
-            Effect::Permit => Decision::Permit,
-            Effect::Deny => Decision::Deny,
-        }
+        self.into()
     }
 }
 
@@ -95,14 +101,14 @@ impl<'a> DecisionPoint for RulePolicy<'a> {
         let rules = self.rules();
         let texts = self.bytes;
         let mut next = 0;
-        let answer = 'rules: loop {
-            if next >= rules.len() {
-                break 'rules (Decision::NotApplicable, Status::Ok, 0);
-            }
+        // A `loop` and not a `for`: it yields the answer.
+        'rules: loop {
             let number = next;
-            let rule = rules[number];
+            let Some(rule) = rules.get(number) else {
+                break 'rules (Decision::NotApplicable, Status::Ok, 0);
+            };
             next += 1;
-            let conditions = self.conditions(&rule);
+            let conditions = self.conditions(rule);
             let mut known = true;
             for condition in conditions {
                 match truth(*condition, texts, request) {
@@ -112,15 +118,15 @@ impl<'a> DecisionPoint for RulePolicy<'a> {
                     Truth::Indeterminate => known = false,
                 }
             }
-            if known {
-                break 'rules (rule.effect.decision(), Status::Ok, number as u16);
-            }
-            break 'rules (
-                Decision::Indeterminate,
-                Status::MissingAttribute,
-                number as u16,
-            );
-        };
-        answer
+            break 'rules if known {
+                (rule.effect.decision(), Status::Ok, number as u16)
+            } else {
+                (
+                    Decision::Indeterminate,
+                    Status::MissingAttribute,
+                    number as u16,
+                )
+            };
+        }
     }
 }

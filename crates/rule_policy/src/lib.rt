@@ -15,6 +15,7 @@ mod tests {
     use crate::policy::RulePolicy;
     use decision::point::DecisionPoint;
     use model::decision::Decision;
+    use model::refusal::Refusal;
     use request::request::Request;
     use single::single::SingleRequest;
     use std::test::Fail;
@@ -52,7 +53,7 @@ mod tests {
         let Err(fault) = policy.open(&UNNAMED) else {
             return Err(Fail::new("it was accepted"));
         };
-        let refusal = fault.refusal();
+        let refusal = Refusal::from(fault);
         assert!(rt; refusal.defect.number() == 12 && refusal.layer() == 3 && refusal.place == 8);
         Ok(())
     }

@@ -2,8 +2,8 @@ ghost use Rattle.std.specs.Prelude.{◌≤◌, vec_len, vec_capacity};
 
 use crate::rule::{Condition, Rule};
 
-// What was read of a rule policy: the conditions of all rules in one table.
-// There is room for what the longest file holds.
+// What was read of a rule policy, with room for what the longest file holds.
+// The conditions of all rules stand in one table: a Vec in each rule would want memory when a file is opened.
 #[derive(Drop)]
 pub struct Rules {
     pub rules: Vec<Rule>,

@@ -1,5 +1,5 @@
 // What a condition comes to.
-#[derive(Clone, Copy)]
+#[derive(Clone, Copy, Debug, PartialEq, Eq)]
 pub enum Truth {
     Met,
     False,

@@ -16,7 +16,8 @@ use Rattle.single.specs.declared.single.SingleRequest.{SingleRequest}
 use Rattle.single.specs.Numbers.{blank, numbered, picked}
 use Rattle.single.specs.Single.{name_of, put, numbers_of, chosen_of, content}
 use Rattle.single.specs.Written.{cut, cut_attribute, cut_element, Spellable, Exact}
-use Rattle.single.proofs.Numbers.{number_in}
+use Rattle.single.proofs.Numbers.{named_in}
+use Rattle.single.proofs.Places.{nth_get_d}
 use Rattle.single.proofs.Viewing.{content_length}
 
 -- WHAT FITS IS NOT CUT
@@ -108,7 +109,7 @@ module _ (s : SingleRequest) (h : Spellable s) where
       (put_fits (name_of s) h.name (numbered all_elements k) (All-get_or ElementFits all_elements k blank l.0 h.request.elements), picked_fit ks l.1)
 
   content_fits : AllByRecursion ElementFits (content s)
-  content_fits = picked_fit (numbers_of s) (All-from_get_or (λ k. k < length all_elements) (numbers_of s) 0 (λ i l. number_in all_elements (numbers_of s) i s.numbers l))
+  content_fits = picked_fit (numbers_of s) (All-from_get_or (λ k. k < length all_elements) (numbers_of s) 0 (λ i l. named_in all_elements (numbers_of s) i _ s.numbers (sym (nth_get_d (numbers_of s) i 0 l))))
 
   content_untagged : AllByRecursion Untagged (content s)
   content_untagged = all_put Untagged (put (name_of s)) (chosen_of s) (put_untagged (name_of s))

@@ -1,3 +1,4 @@
+pub mod Lengths
 pub mod Laying
 pub mod Places
 pub mod Numbers

@@ -1,25 +1,28 @@
 -- What stands at a number of a list. Assumes nothing.
-use Rattle.std.proofs.Common.{◌≡◌, ℕ, zero, suc, ◌+◌, ◌-◌, ◌<◌, ◌≤◌, List, [], ◌∷◌, map, length, get_or, drop, Some, None, refl, ap, ◌∙◌, arith}
-use Rattle.std.specs.Option.{option_map}
+use Rattle.std.proofs.Common.{◌≡◌, ℕ, zero, suc, ◌+◌, ◌<◌, ◌≤◌, List, [], ◌∷◌, map, length, get_or, drop, Some, None, Option, sym, refl, ap, ◌∙◌, arith}
+use Rattle.std.specs.List.{slice_get}
+use Rattle.std.specs.Option.{option_map, option_copied}
+use Rattle.std.specs.Borrow.{Bor}
+use Rattle.std.specs.Slice.{IsItemAt}
+use Rattle.std.proofs.lemmas.Option.{slice_get_past, slice_get-get_or, slice_get-map}
 use Rattle.model.specs.Lists.{nth}
 
 module _ {X : Type 0} where
+  pub nth_is_get : (xs : List X) (i : ℕ) → slice_get xs i ≡ nth xs i
+  nth_is_get [] i = refl
+  nth_is_get (x ∷ xs) zero = refl
+  nth_is_get (x ∷ xs) (suc i) = nth_is_get xs i
+
   pub nth_get_d : (xs : List X) (i : ℕ) (d : X) → i < length xs → nth xs i ≡ Some (get_or xs i d)
-  nth_get_d [] i d h = absurd (omega arith)
-  nth_get_d (x ∷ xs) zero d h = refl
-  nth_get_d (x ∷ xs) (suc i) d h = nth_get_d xs i d (omega arith)
+  nth_get_d xs i d h = sym (nth_is_get xs i) ∙ slice_get-get_or xs i d h
 
   pub nth_past : (xs : List X) (i : ℕ) → length xs ≤ i → nth xs i ≡ None
-  nth_past [] i h = refl
-  nth_past (x ∷ xs) zero h = absurd (omega arith)
-  nth_past (x ∷ xs) (suc i) h = nth_past xs i (omega arith)
+  nth_past xs i h = sym (nth_is_get xs i) ∙ slice_get_past xs i h
 
-  pub nth_first : (x : X) (xs : List X) (n : ℕ) → n ≡ 0 → nth (x ∷ xs) n ≡ Some x
-  nth_first x xs n e = ap (nth (x ∷ xs)) e
-
-  pub nth_next : (x : X) (xs : List X) (n : ℕ) → (n ≡ 0 → ⊥) → nth (x ∷ xs) n ≡ nth xs (n - 1)
-  nth_next x xs zero h = absurd (h refl)
-  nth_next x xs (suc n) h = let q : n ≡ suc n - 1 = omega arith in ap (nth xs) q
+  -- what `get` of a slice gives
+  pub nth_got : (xs : List X) (i : ℕ) (r : Option (Bor X)) → IsItemAt xs i r → option_copied r ≡ nth xs i
+  nth_got xs i None h = sym (nth_past xs i h.3)
+  nth_got xs i (Some x) h = ap Some h.1 ∙ sym (nth_get_d xs i x.now h.3.0)
 
   pub drop_nth : (xs : List X) (j : ℕ) (x : X) → Some x ≡ nth xs j → drop j xs ≡ x ∷ drop (j + 1) xs
   drop_nth [] j x e = let z : ◌≡◌ {A = ℕ} 0 1 = cc in absurd (omega arith)
@@ -32,6 +35,4 @@ module _ {X : Type 0} where
   nth_none (y ∷ ys) (suc j) e = let h = nth_none ys j e in omega arith
 
 pub nth_map : {X Y : Type 0} (f : X → Y) (xs : List X) (i : ℕ) → nth (map f xs) i ≡ option_map f (nth xs i)
-nth_map f [] i = refl
-nth_map f (x ∷ xs) zero = refl
-nth_map f (x ∷ xs) (suc i) = nth_map f xs i
+nth_map f xs i = sym (nth_is_get (map f xs) i) ∙ slice_get-map f xs i ∙ ap (option_map f) (nth_is_get xs i)

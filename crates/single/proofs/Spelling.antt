@@ -1,5 +1,5 @@
 -- How the parts of a single request are spelled. Assumes nothing.
-use Rattle.std.proofs.Common.{◌≡◌, ℕ, zero, suc, ◌+◌, ◌<◌, ◌≤◌, min, List, [], ◌∷◌, ◌++◌, map, length, get_or, take, Some, None, Option, sym, refl, ap, ◌∙◌, ap₂, arith}
+use Rattle.std.proofs.Common.{◌≡◌, ℕ, zero, suc, ◌+◌, ◌^◌, ◌<◌, ◌≤◌, min, List, [], ◌∷◌, ◌++◌, map, length, get_or, take, Some, None, Option, sym, refl, ap, ◌∙◌, ap₂, arith}
 use Rattle.std.specs.Option.{option_map}
 use Rattle.std.specs.List.{flat_map}
 use Rattle.std.proofs.lemmas.List.{append-nil, flat_map_more, map_push, take_more, take_all, length-map, length-take-le}
@@ -10,6 +10,7 @@ use Rattle.model.specs.Spelling.{is_there, spell_attribute, spell_element}
 use Rattle.single.specs.Numbers.{blank}
 use Rattle.single.specs.Single.{category_of, attributes_in}
 use Rattle.single.specs.Written.{cut, cut_attribute, cut_attributes, cut_element, spelled_at, spelled_element, bytes_for}
+use Rattle.single.proofs.Lengths.{elements_few}
 use Rattle.single.proofs.Places.{nth_get_d}
 
 pub there_mapped : {X Y : Type 0} (f : X → Y) (o : Option X) → is_there (option_map f o) ≡ is_there o
@@ -25,14 +26,10 @@ take_nth (y ∷ ys) (suc j) x e = let q : suc j + 1 ≡ suc (j + 1) = omega arit
 pub joined_push : {X Y : Type 0} (f : Y → List ℕ) (g : X → Y) (xs : List X) (x : X) → flat_map f (map g xs) ++ f (g x) ≡ flat_map f (map g (xs ++ x ∷ []))
 joined_push f g xs x = flat_map_more f [] (map g xs) (g x) ∙ ap (flat_map f) (sym (map_push g xs x))
 
--- an element with attributes, and one without
+-- an element with attributes
 pub spelled_some : (c : ℕ) (xs : List Attribute) → 0 < length xs → spelled_at (Some c) xs ≡ 2 ∷ c ∷ length (cut_attributes xs) ∷ flat_map spell_attribute (cut_attributes xs)
 spelled_some c [] h = absurd (omega arith)
 spelled_some c (x ∷ xs) h = refl
-
-pub spelled_none : (c : ℕ) (xs : List Attribute) → length xs ≡ 0 → spelled_at (Some c) xs ≡ 0 ∷ c ∷ []
-spelled_none c [] h = refl
-spelled_none c (x ∷ xs) h = absurd (omega arith)
 
 module _ (xs : List Attribute) (m : ℕ) (is : m ≡ min (length xs) 255) where
   clipped : take m xs ≡ cut xs
@@ -59,3 +56,10 @@ pub whole_spelled : (es : List Element) (n i : ℕ) → n ≡ length es → leng
 whole_spelled es n i e h =
     ap₂ (λ k l. 0 ∷ k ∷ flat_map spell_element (map cut_element l)) (e ∙ sym (length-map es cut_element)) (take_all i es h)
     ∙ ap (λ l. 0 ∷ length (map cut_element es) ∷ l) (sym (append-nil (flat_map spell_element (map cut_element es))))
+
+pub bytes_few : (es : List Element) (n : ℕ) → n ≡ length es → n ≤ 16 → length (bytes_for es) < 2 ^ 64
+bytes_few es n e h =
+    let l = ap length (whole_spelled es n n e (omega arith)) in
+    let k = ap (λ xs. length (flat_map spell_element (map cut_element xs))) (take_all n es (omega arith)) in
+    let f = elements_few es in
+    omega arith

@@ -1,4 +1,6 @@
+pub mod Laid
 pub mod Numbers
+pub mod Only
 pub mod Shown
 pub mod Single
 pub mod Written

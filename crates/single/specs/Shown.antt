@@ -1,5 +1,5 @@
 -- How a single request shows the attributes that a request holds. Assumes nothing.
-use Rattle.std.specs.Prelude.{ℕ, Bool, cond, ◌&&◌, List, [], ◌∷◌, ◌==◌}
+use Rattle.std.specs.Prelude.{ℕ, Bool, cond, not, ◌&&◌, List, map, filter, ◌==◌}
 use Rattle.std.specs.Option.{option_map}
 use Rattle.model.specs.Content as content
 use Rattle.wire.specs.declared.span.Span.{Span}
@@ -27,8 +27,7 @@ abbrev pub hidden : Bool → Attribute → Bool
 hidden node a = node && a.id == 2
 
 abbrev pub shown : Bool → List Attribute → List Seen
-shown node [] = []
-shown node (a ∷ more) = cond (hidden node a) (shown node more) (seen_at node a ∷ shown node more)
+shown node attributes = map (seen_at node) (filter (λ a. not (hidden node a)) attributes)
 
 -- over the request's bytes and the node's name
 abbrev pub value_at : List ℕ → List ℕ → Place → List ℕ

@@ -1,5 +1,5 @@
 -- What writing leaves in a buffer. Assumes nothing.
-use Rattle.std.specs.Prelude.{◌≡◌, ℕ, ◌+◌, ◌<◌, ◌≤◌, Bool, cond, not, List, [], ◌∷◌, ◌++◌, map, length, take, drop, Some, None, Ok, Err, Option, Result, ◌==◌, slice_set}
+use Rattle.std.specs.Prelude.{◌≡◌, ℕ, ◌<◌, ◌≤◌, Bool, cond, not, List, [], ◌++◌, map, length, take, drop, Some, None, Ok, Err, Option, Result, ◌==◌}
 use Rattle.std.specs.Option.{option_map}
 use Rattle.model.specs.Content.{Attribute, Element, read_request}
 use Rattle.model.specs.Rows.{request_of, single_bytes}
@@ -8,16 +8,6 @@ use Rattle.request.specs.Place.{content_of}
 use Rattle.single.specs.declared.short.TooShort.{TooShort}
 use Rattle.single.specs.declared.single.SingleRequest.{SingleRequest}
 use Rattle.single.specs.Single.{name_of, content, category_at, attributes_at}
-
--- bytes laid over a buffer from a place on; what would stand past its end is lost
-abbrev pub lay : List ℕ → ℕ → List ℕ → List ℕ
-lay buffer p [] = buffer
-lay buffer p (b ∷ bs) = lay (slice_set buffer p b) (p + 1) bs
-
--- the bytes were laid from p on, and q is the place after them
-pub record Laid (before : List ℕ) (p : ℕ) (after : List ℕ) (q : ℕ) (bytes : List ℕ) : Type 0 where
-  pub over : after ≡ lay before p bytes
-  pub next : q ≡ p + length bytes
 
 -- a length byte and a count byte tell at most 255; no request that was opened and no node's name comes near it
 abbrev pub cut : {X : Type 0} → List X → List X

@@ -1,5 +1,6 @@
 #![tactic(auto)]
 
+pub mod only;
 pub mod seen;
 pub mod short;
 pub mod shown;
@@ -7,6 +8,7 @@ pub mod single;
 pub mod value;
 pub mod view;
 pub mod write;
+mod writer;
 
 #[cfg(test)]
 mod tests {

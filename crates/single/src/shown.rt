@@ -6,12 +6,9 @@ ghost use Rattle.single.specs.Shown.{seen_at, hidden as is_hidden, shown, value_
 ghost use Rattle.single.specs.Single.{text_in};
 
 use crate::seen::{Place, Seen};
+use model::codes::{RESOURCE_ID, SCOPE};
 use request::content::Attribute;
 use wire::span::part;
-
-const RESOURCE_ID: u8 = 1;
-
-const SCOPE: u8 = 2;
 
 impl Seen {
     // The value, as a part of whichever holds it.
@@ -27,10 +24,7 @@ impl Seen {
     pub fn issuer<'v>(&self, bytes: &'v [u8]) -> Option<&'v [u8]>
         ensures { option_map text_in result ≡ option_map (spanned bytes.now) self.now.issuer }
     {
-        match self.issuer {
-            Some(span) => Some(part(bytes, span)),
-            None => None,
-        }
+        self.issuer.map(|span| part(bytes, span))
     }
 }
 
@@ -62,28 +56,15 @@ fn hidden(a: Attribute, node: bool) -> bool
 pub(crate) fn shown_count(attributes: &[Attribute], node: bool) -> usize
     ensures { result ≡ length (shown node attributes.now) }
 {
-    let mut count = 0;
-    for a in attributes {
-        if hidden(*a, node) {
-            continue;
-        }
-        count += 1;
-    }
-    count
+    attributes.iter().filter(|a| !hidden(**a, node)).count()
 }
 
 pub(crate) fn shown_at(attributes: &[Attribute], node: bool, number: usize) -> Option<Seen>
     ensures { result ≡ nth (shown node attributes.now) number }
 {
-    let mut left = number;
-    for a in attributes {
-        if hidden(*a, node) {
-            continue;
-        }
-        if left == 0 {
-            return Some(seen(*a, node));
-        }
-        left -= 1;
-    }
-    None
+    attributes
+        .iter()
+        .filter(|a| !hidden(**a, node))
+        .nth(number)
+        .map(|a| seen(*a, node))
 }

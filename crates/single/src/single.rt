@@ -9,6 +9,7 @@ use request::request::Request;
 #[derive(Clone, Copy)]
 pub struct SingleRequest<'r, 'a, 'n> {
     pub(crate) request: &'r Request<'a>,
+    // An array with a count beside it: a view is made without a heap, and copied while an enquiry steps.
     pub(crate) chosen: [u8; 16],
     pub(crate) count: u8,
     pub(crate) name: Option<&'n [u8]>,

@@ -8,6 +8,7 @@ pub fn same_bytes(a: &[u8], b: &[u8]) -> bool
     if a.len() != b.len() {
         return false;
     }
+    // By index, which is the project's form for comparing values: it is the place of the byte in both.
     for i in 0..a.len() {
         if a[i] != b[i] {
             return false;

@@ -2,26 +2,22 @@ ghost use Rattle.std.specs.Prelude.{◌≡◌, map, length, take, nat_le};
 ghost use Rattle.std.specs.Option.{option_map};
 ghost use Rattle.model.specs.Lists.{nth};
 ghost use Rattle.model.specs.Rows.{bare, for_node};
+ghost use Rattle.request.specs.Held.{attributes_of_held};
 ghost use Rattle.request.specs.Place.{content_of};
 ghost use Rattle.single.specs.Numbers.{past, all_at};
-ghost use Rattle.single.specs.Single.{name_of, chosen_of, content, bytes_of, name_or_none, category_at, attributes_at, seen_in, is_resource_category, has_category_at};
+ghost use Rattle.single.specs.Single.{name_of, numbers_of, chosen_of, content, bytes_of, name_or_none, category_at, attributes_at, seen_in, is_resource_category, has_category_at};
 
 use crate::seen::Seen;
 use crate::shown::{shown_at, shown_count};
 use crate::single::SingleRequest;
+use model::codes::RESOURCE;
+use request::content::Attribute;
 use request::request::Request;
-
-const RESOURCE: u8 = 1;
 
 fn all_below(numbers: &[u8], elements: usize) -> bool
     ensures { result ≡ nat_le (past numbers.now) elements }
 {
-    for number in numbers {
-        if *number as usize >= elements {
-            return false;
-        }
-    }
-    true
+    numbers.iter().all(|number| usize::from(*number) < elements)
 }
 
 impl<'r, 'a> SingleRequest<'r, 'a, 'a> {
@@ -35,7 +31,7 @@ impl<'r, 'a> SingleRequest<'r, 'a, 'a> {
         ensures content { option_map content result ≡ option_map (map bare) (all_at (content_of request.now).elements (take count chosen)) }
     {
         let count = count.min(16);
-        if all_below(&chosen[0..count as usize], request.elements().len()) {
+        if all_below(&chosen[..usize::from(count)], request.elements().len()) {
             Some(SingleRequest {
                 request,
                 chosen,
@@ -62,22 +58,31 @@ impl<'r, 'a, 'n> SingleRequest<'r, 'a, 'n> {
         }
     }
 
+    // Their numbers in the request.
+    fn numbers(&self) -> &[u8]
+        ensures { result.now ≡ numbers_of self.now }
+    {
+        &self.chosen[..usize::from(self.count)]
+    }
+
     // How many elements there are.
     pub fn elements(&self) -> usize
         ensures { result ≡ length (content self.now) }
     {
-        usize::from(self.count)
+        self.numbers().len()
+    }
+
+    fn number(&self, element: usize) -> Option<u8>
+        ensures { result ≡ nth (numbers_of self.now) element }
+    {
+        self.numbers().get(element).copied()
     }
 
     pub fn category(&self, element: usize) -> Option<u8>
         ensures { result ≡ category_at (content self.now) element }
     {
-        if element < self.count as usize {
-            let number = self.chosen[element] as usize;
-            Some(self.request.elements()[number].category)
-        } else {
-            None
-        }
+        let number = self.number(element)?;
+        Some(self.request.elements()[usize::from(number)].category)
     }
 
     // Whether an element is of a category; past the last one none is.
@@ -87,33 +92,35 @@ impl<'r, 'a, 'n> SingleRequest<'r, 'a, 'n> {
         self.category(element) == Some(category)
     }
 
-    fn is_resource(&self, category: Option<u8>) -> bool
-        ensures { result ≡ is_resource_category (name_of self.now) category }
+    // Whether an element is the resource, for a node.
+    fn is_node(&self, element: usize) -> bool
+        ensures { result ≡ is_resource_category (name_of self.now) (category_at (content self.now) element) }
     {
-        self.name.is_some() && category == Some(RESOURCE)
+        self.name.is_some() && self.has_category(element, RESOURCE)
+    }
+
+    // The attributes of an element as the request holds them; none past the last element.
+    fn held(&self, element: usize) -> &[Attribute]
+        ensures { attributes_of_held (bytes_of self.now) result.now ≡ attributes_at (chosen_of self.now) element }
+    {
+        match self.number(element) {
+            Some(number) => self.request.attributes(usize::from(number)),
+            None => &[],
+        }
     }
 
     // How many attributes an element has; none past the last element.
     pub fn attributes(&self, element: usize) -> usize
         ensures { result ≡ length (attributes_at (content self.now) element) }
     {
-        if element >= self.count as usize {
-            return 0;
-        }
-        let number = self.chosen[element] as usize;
-        let own = self.request.attributes(number);
-        shown_count(own, self.is_resource(self.category(element)))
+        shown_count(self.held(element), self.is_node(element))
     }
 
     // An attribute of an element, both by their numbers here.
     pub fn attribute(&self, element: usize, number: usize) -> Option<Seen>
         ensures { option_map (seen_in self.now) result ≡ nth (attributes_at (content self.now) element) number }
     {
-        if element >= self.count as usize {
-            return None;
-        }
-        let own = self.request.attributes(self.chosen[element] as usize);
-        shown_at(own, self.is_resource(self.category(element)), number)
+        shown_at(self.held(element), self.is_node(element), number)
     }
 
     // The request's bytes, which hold every issuer, and every value but a node's name.
@@ -127,9 +134,6 @@ impl<'r, 'a, 'n> SingleRequest<'r, 'a, 'n> {
     pub fn name(&self) -> &'n [u8]
         ensures { result.now ≡ name_or_none (name_of self.now) }
     {
-        match self.name {
-            Some(name) => name,
-            None => &[],
-        }
+        self.name.unwrap_or(&[])
     }
 }

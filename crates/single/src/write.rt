@@ -1,122 +1,112 @@
-ghost use Rattle.std.specs.Prelude.{◌≡◌, ◌+◌, ◌^◌, ◌<◌, ◌≤◌, [], ◌∷◌, length};
+ghost use Rattle.std.specs.Prelude.{◌≡◌, ◌+◌, [], ◌∷◌, length};
 ghost use Rattle.std.specs.Option.{option_map};
 ghost use Rattle.model.specs.Spelling.{spell_text, spell_some, spell_attribute, flag, is_there};
 ghost use Rattle.wire.specs.Told.{spanned};
+ghost use Rattle.single.specs.Laid.{lay, Laid};
 ghost use Rattle.single.specs.Shown.{attribute_seen};
 ghost use Rattle.single.specs.Single.{content};
-ghost use Rattle.single.specs.Written.{Laid, cut, cut_attribute, spelled_element, bytes_for, Writes, other_type, type_bytes, Spellable, Exact};
+ghost use Rattle.single.specs.Written.{cut, cut_attribute, spelled_element, bytes_for, Writes, other_type, type_bytes, Spellable, Exact};
 
 use crate::seen::Seen;
 use crate::short::TooShort;
 use crate::single::SingleRequest;
+use crate::writer::Writer;
+use model::codes::STRING;
 use wire::span::{Span, part};
 
-const STRING: u8 = 1;
-
-// Each lays its bytes over the buffer from `place` on and answers the place after them.
-// What would stand past the buffer's end is only counted, so that an empty buffer tells the length.
-
-fn put(buffer: &mut [u8], place: usize, byte: u8) -> usize
-    requires { place < 2 ^ 32 }
-    ensures { Laid buffer.old place buffer.new result (byte ∷ []) }
-{
-    if place >= buffer.len() {
-        return place + 1;
+impl Writer<'_> {
+    fn put(&mut self, byte: u8)
+        ensures { Laid self.old self.new (byte ∷ []) }
+    {
+        // By index: `get_mut` of the field's buffer was tried, and the proof didn't close.
+        if self.place < self.buffer.len() {
+            self.buffer[self.place] = byte;
+        }
+        self.place = self.place.saturating_add(1);
     }
-    buffer[place] = byte;
-    place + 1
-}
 
-fn put_text(buffer: &mut [u8], place: usize, text: &[u8]) -> usize
-    requires { place < 2 ^ 31 }
-    ensures laid { Laid buffer.old place buffer.new result (spell_text (cut text.now)) }
-    ensures far { result ≤ place + 256 }
-{
-    let count = text.len().min(255);
-    let mut after = put(buffer, place, count as u8);
-    for i in 0..count {
-        after = put(buffer, after, text[i]);
+    fn put_text(&mut self, text: &[u8])
+        ensures { Laid self.old self.new (spell_text (cut text.now)) }
+    {
+        let count = text.len().min(255);
+        self.put(count as u8);
+        for byte in &text[..count] {
+            self.put(*byte);
+        }
     }
-    after
-}
 
-// A type other than string.
-fn put_type(buffer: &mut [u8], place: usize, data_type: u8) -> usize
-    requires { place < 2 ^ 31 }
-    ensures laid { Laid buffer.old place buffer.new result (type_bytes data_type) }
-    ensures far { result ≤ place + 1 }
-{
-    if data_type == STRING {
-        return place;
+    // A type other than string.
+    fn put_type(&mut self, data_type: u8)
+        ensures { Laid self.old self.new (type_bytes data_type) }
+    {
+        if data_type != STRING {
+            self.put(data_type);
+        }
     }
-    put(buffer, place, data_type)
-}
 
-fn put_issuer(buffer: &mut [u8], place: usize, issuer: Option<Span>, bytes: &[u8]) -> usize
-    requires { place < 2 ^ 31 }
-    ensures laid { Laid buffer.old place buffer.new result (spell_some spell_text (option_map cut (option_map (spanned bytes.now) issuer))) }
-    ensures far { result ≤ place + 256 }
-{
-    match issuer {
-        Some(span) => put_text(buffer, place, part(bytes, span)),
-        None => place,
+    fn put_issuer(&mut self, issuer: Option<Span>, bytes: &[u8])
+        ensures { Laid self.old self.new (spell_some spell_text (option_map cut (option_map (spanned bytes.now) issuer))) }
+    {
+        if let Some(span) = issuer {
+            self.put_text(part(bytes, span));
+        }
+    }
+
+    fn put_attribute(&mut self, seen: Seen, bytes: &[u8], name: &[u8])
+        ensures { Laid self.old self.new (spell_attribute (cut_attribute (attribute_seen bytes.now name.now seen))) }
+    {
+        self.put(attribute_map(seen));
+        self.put(seen.id);
+        self.put_type(seen.data_type);
+        self.put_issuer(seen.issuer, bytes);
+        self.put_text(seen.value(bytes, name));
     }
 }
 
 fn attribute_map(seen: Seen) -> u8
     ensures { result ≡ flag (other_type seen.data_type) 1 + flag (is_there seen.issuer) 2 + flag seen.included 4 }
 {
-    (seen.data_type != STRING) as u8 + seen.issuer.is_some() as u8 * 2 + seen.included as u8 * 4
-}
-
-fn put_attribute(buffer: &mut [u8], place: usize, seen: Seen, bytes: &[u8], name: &[u8]) -> usize
-    requires { place < 2 ^ 30 }
-    ensures laid { Laid buffer.old place buffer.new result (spell_attribute (cut_attribute (attribute_seen bytes.now name.now seen))) }
-    ensures far { result ≤ place + 515 }
-{
-    let map = attribute_map(seen);
-    let after_map = put(buffer, place, map);
-    let after_id = put(buffer, after_map, seen.id);
-    let after_type = put_type(buffer, after_id, seen.data_type);
-    let after_issuer = put_issuer(buffer, after_type, seen.issuer, bytes);
-    put_text(buffer, after_issuer, seen.value(bytes, name))
+    u8::from(seen.data_type != STRING)
+        + u8::from(seen.issuer.is_some()) * 2
+        + u8::from(seen.included) * 4
 }
 
 impl<'r, 'a, 'n> SingleRequest<'r, 'a, 'n> {
-    fn put_element(&self, buffer: &mut [u8], place: usize, element: usize) -> usize
-        requires { place < 2 ^ 29 }
-        ensures laid { Laid buffer.old place buffer.new result (spelled_element (content self.now) element) }
-        ensures far { result ≤ place + 200000 }
+    fn put_element(&self, writer: &mut Writer<'_>, element: usize)
+        ensures { Laid writer.old writer.new (spelled_element (content self.now) element) }
     {
         let Some(category) = self.category(element) else {
-            return place;
+            return;
         };
         let count = self.attributes(element).min(255);
         if count == 0 {
-            let after_map = put(buffer, place, 0);
-            return put(buffer, after_map, category);
+            writer.put(0);
+            writer.put(category);
+            return;
         }
-        let after_map = put(buffer, place, 2);
-        let after_category = put(buffer, after_map, category);
-        let mut after = put(buffer, after_category, count as u8);
+        writer.put(2);
+        writer.put(category);
+        writer.put(count as u8);
+        // By number: the attributes that are shown stand in no slice.
         for number in 0..count {
-            let Some(seen) = self.attribute(element, number) else {
-                continue;
-            };
-            after = put_attribute(buffer, after, seen, self.bytes(), self.name());
+            if let Some(seen) = self.attribute(element, number) {
+                writer.put_attribute(seen, self.bytes(), self.name());
+            }
         }
-        after
     }
 
     fn put_all(&self, buffer: &mut [u8]) -> usize
-        ensures { Laid buffer.old 0 buffer.new result (bytes_for (content self.now)) }
+        ensures over { buffer.new ≡ lay buffer.old 0 (bytes_for (content self.now)) }
+        ensures next { result ≡ length (bytes_for (content self.now)) }
     {
-        let after_map = put(buffer, 0, 0);
-        let mut after = put(buffer, after_map, self.count);
+        let mut writer = Writer { buffer, place: 0 };
+        writer.put(0);
+        writer.put(self.count);
+        // By number: the elements that are shown stand in no slice either.
         for element in 0..self.elements() {
-            after = self.put_element(buffer, after, element);
+            self.put_element(&mut writer, element);
         }
-        after
+        writer.place
     }
 
     // How many bytes the request takes.

@@ -4,24 +4,6 @@ use mathlib.Core.List.{Memᴰ}
 use Rattle.std.proofs.lemmas.Bool.{true≢false}
 use Rattle.model.specs.Lists.{upto, any, keep}
 
-pub or_false : (x : Bool) → (x || false) ≡ x
-or_false true = refl
-or_false false = refl
-
-pub or_assoc : (x y z : Bool) → ((x || y) || z) ≡ (x || (y || z))
-or_assoc true y z = refl
-or_assoc false y z = refl
-
-pub or_again : (x y : Bool) → (x || (x || y)) ≡ (x || y)
-or_again true y = refl
-or_again false y = refl
-
-pub and_turned : (x y : Bool) → (x && y) ≡ (y && x)
-and_turned true true = refl
-and_turned true false = refl
-and_turned false true = refl
-and_turned false false = refl
-
 pub absorb : (s p : Bool) → (p && not s) ≡ false → s ≡ (s || p)
 absorb true p h = refl
 absorb false true h = absurd (true≢false h)

@@ -1,12 +1,13 @@
 -- The steps of the loop that gathers a level. Assumes nothing.
-use Rattle.std.proofs.Common.{◌≡◌, ℕ, ◌+◌, ◌<◌, Bool, true, false, cond, not, ◌&&◌, ◌||◌, ltb, List, [], ◌∷◌, ◌++◌, length, get_or, set, count_by, sym, refl, ap, ◌∙◌, subst, ⊎_elim, add-one, arith}
+use Rattle.std.proofs.Common.{◌≡◌, ℕ, ◌+◌, ◌<◌, Bool, true, false, cond, not, ◌&&◌, ◌||◌, ltb, List, [], ◌∷◌, ◌++◌, length, get_or, set, count_by, sym, ap, ◌∙◌, subst, ⊎_elim, add-one, arith}
 use Rattle.std.proofs.lemmas.List.{append-nil, append_assoc, map-append, length-set, get_or-set_same, get_or-set_other}
 use Rattle.std.proofs.lemmas.List.Sums.{sum_by-set, count_by-le-length}
 use Rattle.std.proofs.lemmas.Bool.{lt-ltb, le-ltb, and_left, and_from, cases_lt, cases_eq, cond-true, cond-false, or_right, not_from_false}
+use Rattle.std.proofs.Math.Bool.{or-false}
 use Rattle.model.specs.Lists.{upto, keep}
 use Rattle.tree.specs.declared.reach.Reached.{Reached}
 use Rattle.tree.specs.Reached.{at_distance, all_at, fresh}
-use Rattle.tree.proofs.Bools.{or_false, absorb, keep_push, upto_more}
+use Rattle.tree.proofs.Bools.{absorb, keep_push, upto_more}
 use Rattle.tree.proofs.Firsts.{below}
 
 -- one more mark is set, so that a mark is left before
@@ -35,17 +36,10 @@ pub record Gathered (d : ℕ) (nodes₀ nodes : List Reached) (seen₀ seen foun
   pub seen_are : (k : ℕ) → k < 1024 → get_or seen k false ≡ (get_or seen₀ k false || below (λ n. get_or found₀ n false) i k)
   pub found_are : found ≡ found₀
 
-pub gathered_none : (d : ℕ) (nodes : List Reached) (seen found : List Bool) → Gathered d nodes nodes seen seen found found 0
-gathered_none d nodes seen found = record {
-  nodes_are = sym (append-nil nodes);
-  seen_are = λ k h. sym (ap (λ x. get_or seen k false || x) (and_left (ltb k 0) (get_or found k false) (le-ltb k 0 (omega arith))) ∙ or_false (get_or seen k false));
-  found_are = refl;
-}
-
 module _ {d : ℕ} {nodes₀ nodes : List Reached} {seen₀ seen found₀ found : List Bool} {i : ℕ} (r : Gathered d nodes₀ nodes seen₀ seen found₀ found i) (within : i < 1024) where
   seen_here : get_or seen i false ≡ get_or seen₀ i false
   seen_here =
-      r.seen_are i within ∙ ap (λ x. get_or seen₀ i false || x) (below_here (λ n. get_or found₀ n false) i) ∙ or_false (get_or seen₀ i false)
+      r.seen_are i within ∙ ap (λ x. get_or seen₀ i false || x) (below_here (λ n. get_or found₀ n false) i) ∙ or-false (get_or seen₀ i false)
 
   fresh_here : fresh found seen i ≡ fresh found₀ seen₀ i
   fresh_here = ap (λ x. x && not (get_or seen i false)) (ap (λ l. get_or l i false) r.found_are) ∙ ap (λ x. get_or found₀ i false && not x) seen_here
@@ -111,8 +105,3 @@ module _ {d : ℕ} {nodes₀ nodes : List Reached} {seen₀ seen found₀ found 
 
           there : (k ≡ i → ⊥) → get_or (set seen i true) k false ≡ (get_or seen₀ k false || below (λ n. get_or found₀ n false) (i + 1) k)
           there ne = get_or-set_other seen i k true false ne ∙ r.seen_are k h ∙ ap (λ x. get_or seen₀ k false || x) (below_other (λ n. get_or found₀ n false) i k ne)
-
--- the loop's end
-pub gathered_all : {d : ℕ} {nodes₀ nodes : List Reached} {seen₀ seen found₀ found : List Bool} {i : ℕ} → Gathered d nodes₀ nodes seen₀ seen found₀ found i → (k : ℕ) → k < 1024 → k < i → get_or seen k false ≡ (get_or seen₀ k false || get_or found₀ k false)
-gathered_all {d} {nodes₀} {nodes} {seen₀} {seen} {found₀} {found} {i} r k h l =
-    r.seen_are k h ∙ ap (λ x. get_or seen₀ k false || (x && get_or found₀ k false)) (lt-ltb k i l)

@@ -3,12 +3,13 @@ use Rattle.std.proofs.Common.{◌≡◌, ℕ, zero, suc, ◌+◌, ◌-◌, ◌<�
 use mathlib.Core.List.Memᴰ
 use mathlib.Core.List.{Memᴰ}
 use Rattle.std.proofs.lemmas.List.{append-nil, append_assoc, map-append}
+use Rattle.std.proofs.Math.Bool.{or_assoc, or_self_left, and_comm}
 use Rattle.model.specs.Lists.{upto, any, keep}
 use Rattle.model.specs.Tree.{Tree, count, nodes, near, at_distance, level, levels, children, descendants, Extent, depth}
 use Rattle.model.proofs.Members.{mem_keep, keep_none, of_upto, mem_upto}
 use Rattle.model.proofs.Distances.{level_before}
 use Rattle.tree.specs.Reached.{all_at, nodes_reached, node_of, levels_at, fresh, farthest_of}
-use Rattle.tree.proofs.Bools.{or_assoc, or_again, and_turned, any_or, any_keep, any_same, keep_same}
+use Rattle.tree.proofs.Bools.{any_or, any_keep, any_same, keep_same}
 
 -- where a link l leads on from a node that lies near (x), or one link farther (z)
 both_levels : (l x z : Bool) → ((l && x) || (((x || z) && not x) && l)) ≡ (l && (x || z))
@@ -32,7 +33,7 @@ module _ (tree : Tree) (a : ℕ) where
   pub found_next : (j k : ℕ) → (near tree a j k || any (λ m. tree.linked m k) (level tree a j)) ≡ near tree a (suc j) k
   found_next zero k =
       ap (λ x. near tree a 0 k || x) (any_keep (at_distance tree a 0) (λ m. tree.linked m k) (nodes tree)
-      ∙ any_same (λ m. at_distance tree a 0 m && tree.linked m k) (last_link 0 k) (λ m. and_turned (near tree a 0 m) (tree.linked m k)) (nodes tree))
+      ∙ any_same (λ m. at_distance tree a 0 m && tree.linked m k) (last_link 0 k) (λ m. and_comm (near tree a 0 m) (tree.linked m k)) (nodes tree))
   found_next (suc i) k =
       let step : ℕ → Bool = λ m. any (last_link i m) (nodes tree) in
       let here : ℕ → Bool = λ m. at_distance tree a (suc i) m && tree.linked m k in
@@ -45,7 +46,7 @@ module _ (tree : Tree) (a : ℕ) where
       ∙ ap (λ b. x || b) (any_or (last_link i k) (last_link (suc i) k) (nodes tree) ∙ any_same (λ m. last_link i k m || last_link (suc i) k m) (last_link (suc i) k) (λ m. farther_too (tree.linked m k) (near tree a i m) (step m)) (nodes tree)))
 
   pub seen_next : (j k : ℕ) → (near tree a j k || near tree a (suc j) k) ≡ near tree a (suc j) k
-  seen_next j k = or_again (near tree a j k) (any (last_link j k) (nodes tree))
+  seen_next j k = or_self_left (near tree a j k) (any (last_link j k) (nodes tree))
 
   -- what is found and not seen, where that is known of each node
   pub level_is : (p : ℕ → Bool) (seen found : List Bool) → ((k : ℕ) → k < count tree → fresh found seen k ≡ p k) → keep (fresh found seen) (upto 0 (count tree)) ≡ keep p (nodes tree)

@@ -2,48 +2,36 @@
 use Rattle.std.proofs.Common.{◌≡◌, ℕ, suc, ◌+◌, ◌<◌, ◌≤◌, Bool, true, false, not, ◌&&◌, ◌||◌, eqb, List, [], ◌++◌, length, get_or, drop, set, replicate, sym, refl, ap, ◌∙◌, subst, ap₂, ⊎_elim, add-one, arith}
 use Rattle.std.proofs.lemmas.List.{append-nil, length-append, length-replicate, get_or-replicate, get_or-set_same, get_or-set_other, drop_at, at_drop_more, at_drop_all, nil_from_length, length-map}
 use Rattle.std.proofs.lemmas.Bool.{eq-eqb, ne_eqb, cases_eq}
+use Rattle.std.proofs.Math.Bool.{or-false, or_assoc}
 use Rattle.model.specs.Lists.{upto, any, keep}
 use Rattle.model.specs.Tree.{Tree, count, nodes, near, at_distance, level, Extent, depth}
 use Rattle.tree.specs.declared.reach.Reached.{Reached}
 use Rattle.tree.specs.Reached.{all_at, nodes_reached, levels_at, fresh, farthest_of}
-use Rattle.tree.proofs.Bools.{or_false, or_assoc}
 use Rattle.tree.proofs.Levels.{seen_next, found_next, level_is, levels_push, levels_all, nodes_all_at}
 
-pub record Spreading (link : ℕ → ℕ → Bool) (nodes₀ nodes : List Reached) (seen₀ seen found₀ found : List Bool) (start i : ℕ) : Type 0 where
-  pub nodes_are : nodes ≡ nodes₀
-  pub seen_are : seen ≡ seen₀
-  pub found_are : (k : ℕ) → k < 1024 → (get_or found k false || any (λ m. link m k) (nodes_reached (drop i nodes₀))) ≡ (get_or found₀ k false || any (λ m. link m k) (nodes_reached (drop start nodes₀)))
+-- what is found, with what is still to be found from the i-th node of a level on, stays the same
+abbrev pub Spreading : (ℕ → ℕ → Bool) → List Reached → List Bool → List Bool → ℕ → Type 0
+Spreading link ns before found i =
+    (k : ℕ) → k < 1024 → (get_or found k false || any (λ m. link m k) (nodes_reached (drop i ns))) ≡ (get_or before k false || any (λ m. link m k) (nodes_reached ns))
 
-pub spreading_none : (link : ℕ → ℕ → Bool) (nodes : List Reached) (seen found : List Bool) (start : ℕ) → Spreading link nodes nodes seen seen found found start start
-spreading_none link nodes seen found start = record { nodes_are = refl; seen_are = refl; found_are = λ k h. refl }
+module _ (link : ℕ → ℕ → Bool) (ns : List Reached) (before found : List Bool) (i : ℕ) (r : Spreading link ns before found i) where
+  pub spreading_more : (found' : List Bool) (d : Reached) → i < length ns → ((k : ℕ) → k < 1024 → get_or found' k false ≡ (get_or found k false || link (get_or ns i d).node k)) → Spreading link ns before found' (i + 1)
+  spreading_more found' d within marked k h =
+      ap (λ b. b || any (λ m. link m k) (nodes_reached (drop (i + 1) ns))) (marked k h)
+      ∙ or_assoc (get_or found k false) (link (get_or ns i d).node k) (any (λ m. link m k) (nodes_reached (drop (i + 1) ns)))
+      ∙ ap (λ b. get_or found k false || b) (sym (at_drop_more (λ l. any (λ m. link m k) (nodes_reached l)) ns i d within))
+      ∙ r k h
 
-module _ {link : ℕ → ℕ → Bool} {nodes₀ nodes : List Reached} {seen₀ seen found₀ found : List Bool} {start i : ℕ} (r : Spreading link nodes₀ nodes seen₀ seen found₀ found start i) where
-  pub spreading_more : (x : Reached) (found' : List Bool) → i < length nodes → x ≡ get_or nodes i x → ((k : ℕ) → k < 1024 → get_or found' k false ≡ (get_or found k false || link x.node k)) → Spreading link nodes₀ nodes seen₀ seen found₀ found' start (i + 1)
-  spreading_more x found' within read marked = record {
-    nodes_are = r.nodes_are;
-    seen_are = r.seen_are;
-    found_are = λ k h.
-        ap (λ b. b || any (λ m. link m k) (nodes_reached (drop (i + 1) nodes₀))) (marked k h)
-        ∙ or_assoc (get_or found k false) (link x.node k) (any (λ m. link m k) (nodes_reached (drop (i + 1) nodes₀)))
-        ∙ ap (λ b. get_or found k false || b) (ap (λ (m : Reached). link m.node k || any (λ m. link m k) (nodes_reached (drop (i + 1) nodes₀))) here ∙ sym (at_drop_more (λ l. any (λ m. link m k) (nodes_reached l)) nodes₀ i x inside))
-        ∙ r.found_are k h;
-  }
-    where
-      inside : i < length nodes₀
-      inside = subst (λ l. i < length l) r.nodes_are within
-
-      here : x ≡ get_or nodes₀ i x
-      here = subst (λ l. x ≡ get_or l i x) r.nodes_are read
-
-  pub spreading_all : length nodes ≤ i → (k : ℕ) → k < 1024 → get_or found k false ≡ (get_or found₀ k false || any (λ m. link m k) (nodes_reached (drop start nodes₀)))
+  pub spreading_all : length ns ≤ i → (k : ℕ) → k < 1024 → get_or found k false ≡ (get_or before k false || any (λ m. link m k) (nodes_reached ns))
   spreading_all past k h =
-      sym (or_false (get_or found k false))
-      ∙ ap (λ b. get_or found k false || b) (sym (at_drop_all (λ l. any (λ m. link m k) (nodes_reached l)) nodes₀ i (subst (λ l. length l ≤ i) r.nodes_are past)))
-      ∙ r.found_are k h
+      sym (or-false (get_or found k false))
+      ∙ ap (λ b. get_or found k false || b) (sym (at_drop_all (λ l. any (λ m. link m k) (nodes_reached l)) ns i past))
+      ∙ r k h
 
 -- the levels to distance j are reached; the last of them starts at `start`
 pub record Levelled (tree : Tree) (a : ℕ) (rs : List Reached) (seen found : List Bool) (start j : ℕ) : Type 0 where
   pub nodes_are : rs ≡ levels_at tree a 0 (suc j)
+  pub within : start ≤ length rs
   pub last_is : nodes_reached (drop start rs) ≡ level tree a j
   pub seen_are : (k : ℕ) → k < count tree → get_or seen k false ≡ near tree a j k
   pub found_are : (k : ℕ) → k < count tree → get_or found k false ≡ near tree a j k
@@ -76,6 +64,7 @@ module _ (tree : Tree) (a : ℕ) (few : count tree ≤ 1024) where
       gathered ∙ ap (λ l. l ++ all_at 0 (keep (fresh found seen) (upto 0 n))) empty ∙ ap (λ m. all_at 0 (keep (fresh found seen) (upto 0 m))) whole ∙ ap (all_at 0) first in
       record {
         nodes_are = rows ∙ sym (append-nil (all_at 0 (level tree a 0)));
+        within = omega arith;
         last_is = ap nodes_reached rows ∙ nodes_all_at tree a 0 (level tree a 0);
         seen_are = λ k h. looked k (omega arith) ∙ ap (λ x. x || get_or found k false) (dark k h) ∙ mark k h;
         found_are = λ k h. ap (λ l. get_or l k false) kept ∙ mark k h;
@@ -86,20 +75,19 @@ module _ (tree : Tree) (a : ℕ) (few : count tree ≤ 1024) where
       and_true false = refl
 
   module _ {rs : List Reached} {seen found : List Bool} {start j : ℕ} (r : Levelled tree a rs seen found start j)
-      (n : ℕ) (rs₁ rs₂ : List Reached) (seen₁ seen₂ found₁ found₂ : List Bool) (whole : n ≡ count tree)
-      (same_rows : rs₁ ≡ rs) (same_seen : seen₁ ≡ seen)
-      (spread : (k : ℕ) → k < 1024 → get_or found₁ k false ≡ (get_or found k false || any (λ m. tree.linked m k) (nodes_reached (drop start rs))))
-      (gathered : rs₂ ≡ rs₁ ++ all_at (j + 1) (keep (fresh found₁ seen₁) (upto 0 n)))
+      (n : ℕ) (ns rs₂ : List Reached) (seen₂ found₁ found₂ : List Bool) (whole : n ≡ count tree) (last : ns ≡ drop start rs)
+      (spread : (k : ℕ) → k < 1024 → get_or found₁ k false ≡ (get_or found k false || any (λ m. tree.linked m k) (nodes_reached ns)))
+      (gathered : rs₂ ≡ rs ++ all_at (j + 1) (keep (fresh found₁ seen) (upto 0 n)))
     where
       next_found : (k : ℕ) → k < count tree → get_or found₁ k false ≡ near tree a (suc j) k
       next_found k h =
-          spread k (omega arith) ∙ ap₂ (λ x l. x || any (λ m. tree.linked m k) l) (r.found_are k h) r.last_is ∙ found_next tree a j k
+          spread k (omega arith) ∙ ap₂ (λ x l. x || any (λ m. tree.linked m k) l) (r.found_are k h) (ap nodes_reached last ∙ r.last_is) ∙ found_next tree a j k
 
       next_level : rs₂ ≡ rs ++ all_at (suc j) (level tree a (suc j))
       next_level =
-          gathered ∙ ap (λ l. l ++ all_at (j + 1) (keep (fresh found₁ seen₁) (upto 0 n))) same_rows
-          ∙ ap (λ m. rs ++ all_at (j + 1) (keep (fresh found₁ seen₁) (upto 0 m))) whole
-          ∙ ap (λ l. rs ++ all_at (j + 1) l) (level_is tree a (at_distance tree a (suc j)) seen₁ found₁ (λ k h. ap₂ (λ x y. x && not y) (next_found k h) (ap (λ l. get_or l k false) same_seen ∙ r.seen_are k h)))
+          gathered
+          ∙ ap (λ m. rs ++ all_at (j + 1) (keep (fresh found₁ seen) (upto 0 m))) whole
+          ∙ ap (λ l. rs ++ all_at (j + 1) l) (level_is tree a (at_distance tree a (suc j)) seen found₁ (λ k h. ap₂ (λ x y. x && not y) (next_found k h) (r.seen_are k h)))
           ∙ ap (λ d. rs ++ all_at d (level tree a (suc j))) (add-one j)
 
       rows : rs₂ ≡ levels_at tree a 0 (suc (suc j))
@@ -108,11 +96,12 @@ module _ (tree : Tree) (a : ℕ) (few : count tree ≤ 1024) where
           next_level ∙ ap (λ l. l ++ all_at (suc j) (level tree a (suc j))) r.nodes_are
           ∙ sym (levels_push tree a 0 (suc j) ∙ ap (λ i. levels_at tree a 0 (suc j) ++ all_at i (level tree a i)) z)
 
-      pub levelled_more : (end : ℕ) → length rs ≡ end → ((k : ℕ) → k < n → get_or seen₂ k false ≡ (get_or seen₁ k false || get_or found₁ k false)) → found₂ ≡ found₁ → Levelled tree a rs₂ seen₂ found₂ end (j + 1)
+      pub levelled_more : (end : ℕ) → length rs ≡ end → ((k : ℕ) → k < n → get_or seen₂ k false ≡ (get_or seen k false || get_or found₁ k false)) → found₂ ≡ found₁ → Levelled tree a rs₂ seen₂ found₂ end (j + 1)
       levelled_more end long looked kept = subst (Levelled tree a rs₂ seen₂ found₂ end) (sym (add-one j)) (record {
         nodes_are = rows;
+        within = omega (arith, ap length next_level, length-append rs (all_at (suc j) (level tree a (suc j))));
         last_is = ap (λ l. nodes_reached (drop end l)) next_level ∙ ap nodes_reached (drop_at rs (all_at (suc j) (level tree a (suc j))) end long) ∙ nodes_all_at tree a (suc j) (level tree a (suc j));
-        seen_are = λ k h. looked k (omega arith) ∙ ap₂ (λ x y. x || y) (ap (λ l. get_or l k false) same_seen ∙ r.seen_are k h) (next_found k h) ∙ seen_next tree a j k;
+        seen_are = λ k h. looked k (omega arith) ∙ ap₂ (λ x y. x || y) (r.seen_are k h) (next_found k h) ∙ seen_next tree a j k;
         found_are = λ k h. ap (λ l. get_or l k false) kept ∙ next_found k h;
       })
 

@@ -1,5 +1,5 @@
 -- What a reach holds. Assumes nothing.
-use Rattle.std.specs.Prelude.{ℕ, zero, suc, ◌+◌, ◌-◌, Bool, false, not, ◌&&◌, List, [], ◌++◌, map, slice_index_or}
+use Rattle.std.specs.Prelude.{◌≡◌, ℕ, zero, suc, ◌+◌, ◌-◌, ◌<◌, Bool, false, not, ◌&&◌, ◌||◌, List, [], ◌++◌, map, slice_index_or}
 use Rattle.model.specs.Tree.{Tree, level, Extent, children, descendants}
 use Rattle.tree.specs.declared.extent.Extent.{Extent as ToldExtent}
 use Rattle.tree.specs.declared.extent.Extent.TheVariants.{Children, Descendants}
@@ -33,3 +33,7 @@ fresh found seen n = slice_index_or found n false && not (slice_index_or seen n 
 abbrev pub levels_at : Tree → ℕ → ℕ → ℕ → List Reached
 levels_at tree a d zero = []
 levels_at tree a d (suc n) = all_at d (level tree a d) ++ levels_at tree a (d + 1) n
+
+-- below a number, what was marked is marked, and so are the nodes that pass
+abbrev pub Marked : ℕ → List Bool → List Bool → (ℕ → Bool) → Type 0
+Marked most before after p = (k : ℕ) → k < most → slice_index_or after k false ≡ (slice_index_or before k false || p k)

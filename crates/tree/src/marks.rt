@@ -1,6 +1,6 @@
 ghost use Rattle.std.specs.Prelude.{◌≡◌, true, false, length, set as with_mark, replicate, slice_index_or};
 
-// A mark for each node that a tree can have.
+// A mark for each node that a tree can have: a plain table, with calls of its own, since a search allocates nothing.
 #[derive(Drop)]
 pub struct Marks {
     on: [bool; 1024],
@@ -24,6 +24,7 @@ impl Marks {
     pub fn set(&mut self, node: usize)
         ensures { self.new.on ≡ with_mark self.old.on node true }
     {
+        // By index: `get_mut` of the array was tried, and the proof didn't close.
         if node < 1024 {
             self.on[node] = true;
         }
@@ -32,6 +33,6 @@ impl Marks {
     pub fn is_set(&self, node: usize) -> bool
         ensures { result ≡ slice_index_or self.now.on node false }
     {
-        node < 1024 && self.on[node]
+        self.on.get(node).copied().unwrap_or(false)
     }
 }

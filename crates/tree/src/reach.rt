@@ -5,7 +5,7 @@ use crate::marks::Marks;
 pub mod steps;
 
 // A node that links lead to, and the least number of links that do.
-#[derive(Clone, Copy)]
+#[derive(Clone, Copy, Debug, PartialEq)]
 pub struct Reached {
     pub node: usize,
     pub distance: usize,

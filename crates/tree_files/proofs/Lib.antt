@@ -1,7 +1,7 @@
-pub mod Names
+pub mod Named
 pub mod Order
 pub mod Links
+pub mod Segments
 pub mod Reading
 pub mod Answering
-pub mod Segments
 pub mod Spelling

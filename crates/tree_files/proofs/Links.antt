@@ -1,22 +1,20 @@
 -- The links of a tree: what a search in them finds, and links in another order. Assumes nothing.
-use Rattle.std.proofs.Common.{◌≡◌, ℕ, zero, suc, ◌+◌, ◌<◌, ◌≤◌, Bool, true, false, ◌&&◌, eqb, List, [], ◌∷◌, ◌++◌, length, get_or, Some, None, Err, Ordering, Less, Equal, Greater, sym, refl, ap, ◌∙◌, subst, ap₂, ⊎_elim, arith}
+use Rattle.std.proofs.Common.{◌≡◌, ℕ, zero, suc, ◌+◌, ◌<◌, ◌≤◌, Bool, true, false, ◌&&◌, eqb, List, [], ◌∷◌, ◌++◌, length, get_or, Some, None, Ordering, Less, Equal, Greater, sym, refl, ap, ◌∙◌, subst, ap₂, ⊎_elim, arith}
 use mathlib.Core.Path.{fun_ext}
 use Rattle.std.proofs.lemmas.List.{get_or_default, length_push, get_or_push, get_or_append_left}
 use Rattle.std.proofs.lemmas.List.Sorted.{sorted_far, searchable_from_sorted, IsPermutation-sym}
 use Rattle.std.proofs.ByRecursion.{has_shuffled}
 use Rattle.std.proofs.lemmas.List.MinMax.{ranks_by}
-use Rattle.std.proofs.lemmas.Bool.{and_from, eq-eqb, or_left, or_right, cases_lt, cases_Bool, true≢false}
-use Rattle.std.specs.Cmp.{ranks, then_total, on_total, nat_cmp_total}
-use Rattle.std.specs.Ordering.{is_lt, ordering_then, MatchOrdering, nat_cmp}
-use Rattle.std.specs.List.Sorted.{IsBinarySearchResult, IsPartitionPoint, IsPermutation, IsSortedWithin}
+use Rattle.std.proofs.lemmas.Bool.{and_from, eqb-true, eq-eqb, or_left, or_right, cases_lt, true≢false, false≢true, false_from_ne_true}
+use Rattle.std.proofs.lemmas.Cmp.{is_lt_index}
+use Rattle.std.specs.Cmp.{both_ways, IsTotalOrder, ranks, then_total, on_total, nat_cmp_total}
+use Rattle.std.specs.Ordering.{is_lt, ordering_index, ordering_then, MatchOrdering, nat_cmp}
+use Rattle.std.specs.List.Sorted.{IsPartitionedBy, IsPartitionPoint, IsPermutation, IsSortedWithin}
 use Rattle.std.specs.List.{ContainsAt as Has}
 use Rattle.model.specs.TreeFiles.{has_link}
 use Rattle.tree.proofs.Firsts.{Least, none_passes, least_is}
-use Rattle.tree_files.specs.Limited.{link_at}
+use Rattle.tree_files.specs.Limited.{link_at, is_less}
 use Rattle.tree_files.specs.Links.{Ends, link_less, LinkAscending}
-
-pub ends_none : (n : ℕ) → Ends n []
-ends_none n i h = absurd (omega arith)
 
 pub ends_push : (n : ℕ) (ls : List (ℕ × ℕ)) (l : ℕ × ℕ) → Ends n ls → l.0 < n → l.1 < n → Ends n (ls ++ l ∷ [])
 ends_push n ls l h p c i b =
@@ -33,11 +31,6 @@ has_here (l ∷ ls) (suc i) p c h e f = or_right (eqb l.0 p && eqb l.1 c) (has_l
 
 -- LINKS IN ANOTHER ORDER
 
-pub either_way : (a b : Bool) → (a ≡ true → b ≡ true) → (b ≡ true → a ≡ true) → a ≡ b
-either_way true b f g = sym (f refl)
-either_way false true f g = g refl
-either_way false false f g = refl
-
 module _ (ls ks : List (ℕ × ℕ)) (s : IsPermutation ls ks) where
   moved : (p c : ℕ) → has_link ls p c ≡ true → has_link ks p c ≡ true
   moved p c h =
@@ -49,7 +42,7 @@ module _ (ls ks : List (ℕ × ℕ)) (s : IsPermutation ls ks) where
 
 module _ (ls ks : List (ℕ × ℕ)) (s : IsPermutation ls ks) where
   pub same_links : has_link ls ≡ has_link ks
-  same_links = fun_ext (λ p. fun_ext (λ c. either_way (has_link ls p c) (has_link ks p c) (moved ls ks s p c) (moved ks ls (IsPermutation-sym ls ks s) p c)))
+  same_links = fun_ext (λ p. fun_ext (λ c. both_ways (has_link ls p c) (has_link ks p c) (moved ls ks s p c) (moved ks ls (IsPermutation-sym ls ks s) p c)))
 
   pub ends_shuffled : (n : ℕ) → Ends n ls → Ends n ks
   ends_shuffled n h i l =
@@ -67,9 +60,6 @@ ascends ls up k d l h =
 
 pub ascending_from : (ls : List (ℕ × ℕ)) (n : ℕ) → n ≡ length ls → IsSortedWithin link_less ls 0 n → LinkAscending ls
 ascending_from ls n e up k h = up k (0, 0) (omega arith) (omega arith)
-
-ranked : (a b : ℕ) (o : Ordering) → nat_cmp a b ≡ o → MatchOrdering o (a < b) (a ≡ b) (b < a)
-ranked a b o e = subst (λ r. MatchOrdering r (a < b) (a ≡ b) (b < a)) e (ranks a b)
 
 abbrev order_of : ℕ × ℕ → ℕ × ℕ → Ordering
 order_of k l = ordering_then (nat_cmp k.0 l.0) (nat_cmp k.1 l.1)
@@ -94,23 +84,15 @@ compared_links k l = first (nat_cmp k.0 l.0) (ranks k.0 l.0)
     first Equal h = second h (nat_cmp k.1 l.1) (ranks k.1 l.1)
     first Greater h = by_parent_greater h
 
+total : IsTotalOrder order_of
+total = then_total (on_total (λ (p : ℕ × ℕ). p.0) nat_cmp_total) (on_total (λ (p : ℕ × ℕ). p.1) nat_cmp_total)
+
 as_told : (k l : ℕ × ℕ) (o : Ordering) → order_of k l ≡ o → Compared k l o
 as_told k l o e = subst (Compared k l) e (compared_links k l)
 
 less_child : {k l : ℕ × ℕ} → Compared k l Less → k.0 ≡ l.0 → k.1 < l.1
 less_child (by_parent_less h) e = absurd (omega arith)
 less_child (by_child_less p h) e = h
-
-greater_child : {k l : ℕ × ℕ} → Compared k l Greater → k.0 ≡ l.0 → l.1 < k.1
-greater_child (by_parent_greater h) e = absurd (omega arith)
-greater_child (by_child_greater p h) e = h
-
-greater_parent : {k l : ℕ × ℕ} → Compared k l Greater → l.0 ≤ k.0
-greater_parent (by_parent_greater h) = omega arith
-greater_parent (by_child_greater p h) = omega arith
-
-equal_both : {k l : ℕ × ℕ} → Compared k l Equal → (k.0 ≡ l.0) × (k.1 ≡ l.1)
-equal_both (alike p c) = (p, c)
 
 -- not less: at or above
 not_less : {k l : ℕ × ℕ} {o : Ordering} → Compared k l o → is_lt o ≡ false → (l.0 ≤ k.0) × (k.0 ≡ l.0 → l.1 ≤ k.1)
@@ -128,37 +110,32 @@ module _ (ls : List (ℕ × ℕ)) (up : LinkAscending ls) (node from : ℕ) wher
   link i = get_or ls i (0, 0)
 
   far : (i j : ℕ) → i ≤ j → j < length ls → ((link i).0 ≤ (link j).0) × ((link j).0 ≡ (link i).0 → (link i).1 ≤ (link j).1)
-  far i j l h = not_less (compared_links (link j) (link i)) (sorted_far link_less (ranks_by (then_total (on_total (λ p. p.0) nat_cmp_total) (on_total (λ p. p.1) nat_cmp_total)) (λ (k : ℕ × ℕ). k)) ls (ascends ls up) i j (0, 0) l h)
+  far i j l h = not_less (compared_links (link j) (link i)) (sorted_far link_less (ranks_by total (λ (k : ℕ × ℕ). k)) ls (ascends ls up) i j (0, 0) l h)
 
-  refuted : (c : ℕ) → (has_link ls node c ≡ true → ⊥) → has_link ls node c ≡ false
-  refuted c f = ⊎_elim (λ e. absurd (f e)) (λ e. e) (cases_Bool (has_link ls node c))
+  -- what `partition_point` asks
+  pub less_first : IsPartitionedBy (λ y. link_less y (node, from)) ls
+  less_first i j d l h e =
+      let r = searchable_from_sorted total (λ (k : ℕ × ℕ). k) ls key (ascends ls up) i j d l h in
+      let z = eqb-true (ordering_index (order_of (get_or ls j d) key)) 0 (sym (is_lt_index (order_of (get_or ls j d) key)) ∙ e) in
+      is_lt_index (order_of (get_or ls i d) key) ∙ eq-eqb (ordering_index (order_of (get_or ls i d) key)) 0 (omega arith)
 
-  pub least_found : (i : ℕ) → i < length ls → ((d : ℕ × ℕ) → order_of (get_or ls i d) key ≡ Equal) → Least (has_link ls node) from (Some from)
-  least_found i h e =
-      let b = equal_both (as_told (link i) key Equal (e (0, 0))) in
-      least_is (omega arith) (has_here ls i node from h b.0 b.1) (λ k l m. absurd (omega arith))
-
-  module _ (i : ℕ) (p : IsPartitionPoint (λ y. order_of y key ≡ Less) (λ y. order_of y key ≡ Greater) ls i) where
+  module _ (i : ℕ) (p : IsPartitionPoint (λ y. link_less y (node, from) ≡ true) (λ y. link_less y (node, from) ≡ false) ls i) where
     below : (k : ℕ) → k < i → (link k).0 ≡ node → (link k).1 < from
-    below k h e = less_child (as_told (link k) key Less (p.0 k (0, 0) (omega arith) h)) e
+    below k h e = less_child (as_told (link k) key Less (is_less _ (p.0 k (0, 0) (omega arith) h))) e
 
     pub least_next : i < length ls → (link i).0 ≡ node → Least (has_link ls node) from (Some (link i).1)
     least_next h e =
-        let g = as_told (link i) key Greater (p.1 i (0, 0) (omega arith) h) in
-        let low : from < (link i).1 = greater_child g e in
-        least_is (omega arith) (has_here ls i node (link i).1 h e refl) (λ c l m. refuted c (λ t.
+        let low : from ≤ (link i).1 = (not_less (compared_links (link i) key) (p.1 i (0, 0) (omega arith) h)).1 e in
+        least_is low (has_here ls i node (link i).1 h e refl) (λ c l m. false_from_ne_true (has_link ls node c) (λ t.
         let r = link_at ls node c t in
         ⊎_elim (λ k. omega (arith, below r.0 k r.2, r.3)) (λ k. omega (arith, (far i r.0 k r.1).1 (r.2 ∙ sym e), r.3)) (cases_lt r.0 i)))
 
     pub least_other : i < length ls → ((link i).0 ≡ node → ⊥) → Least (has_link ls node) from None
     least_other h ne =
-        let g = greater_parent (as_told (link i) key Greater (p.1 i (0, 0) (omega arith) h)) in
-        none_passes (λ c l. refuted c (λ t.
+        let g = (not_less (compared_links (link i) key) (p.1 i (0, 0) (omega arith) h)).0 in
+        none_passes (λ c l. false_from_ne_true (has_link ls node c) (λ t.
         let r = link_at ls node c t in
         ⊎_elim (λ k. omega (arith, below r.0 k r.2, r.3)) (λ k. ne (omega (arith, (far i r.0 k r.1).0, r.2, g))) (cases_lt r.0 i)))
 
     pub least_past : length ls ≤ i → Least (has_link ls node) from None
-    least_past h = none_passes (λ c l. refuted c (λ t. let r = link_at ls node c t in omega (arith, below r.0 (omega (arith, r.1)) r.2, r.3)))
-
-  pub parted : (i : ℕ) → IsBinarySearchResult (λ y. order_of y key) ls (Err i) → IsPartitionPoint (λ y. order_of y key ≡ Less) (λ y. order_of y key ≡ Greater) ls i
-  parted i h = h (searchable_from_sorted (then_total (on_total (λ p. p.0) nat_cmp_total) (on_total (λ p. p.1) nat_cmp_total)) (λ (k : ℕ × ℕ). k) ls key (ascends ls up))
+    least_past h = none_passes (λ c l. false_from_ne_true (has_link ls node c) (λ t. let r = link_at ls node c t in omega (arith, below r.0 (omega (arith, r.1)) r.2, r.3)))

@@ -1,32 +1,32 @@
 -- The table of nodes in the order of their names: what a search in it finds, and a name more. Assumes nothing.
-use Rattle.std.proofs.Common.{◌≡◌, ℕ, ◌+◌, ◌-◌, ◌<◌, ◌≤◌, Bool, true, false, ◌||◌, eqb, ◌⊎◌, List, [], ◌∷◌, ◌++◌, length, get_or, take, drop, Some, None, Ordering, Less, Equal, Greater, sym, refl, ap, ◌∙◌, subst, ap₂, inl, inr, ⊎_elim, arith}
+use Rattle.std.proofs.Common.{◌≡◌, ℕ, ◌+◌, ◌-◌, ◌<◌, ◌≤◌, Bool, true, false, ◌||◌, eqb, ◌⊎◌, List, [], ◌∷◌, ◌++◌, length, get_or, take, drop, Some, None, Ok, Err, Result, vec_items, Ordering, Less, Equal, Greater, sym, refl, ap, ◌∙◌, subst, ap₂, inl, inr, ⊎_elim, arith}
 use Rattle.std.proofs.lemmas.List.Edits.{length-insert, get_or-insert_below, get_or-insert_at, get_or-insert_above}
-use Rattle.std.proofs.lemmas.List.{length_push, get_or_push, get_or_append_left, take-append-drop, map_push}
+use Rattle.std.proofs.lemmas.List.{get_or_default, length_push, get_or_push, get_or_append_left, take-append-drop, map_push}
 use Rattle.std.proofs.lemmas.Bool.{cases_order, cases_lt, eq-eqb, or_left, or_right, or_cases}
 use Rattle.std.specs.List.{insert}
-use Rattle.std.specs.Cmp.{ranks, nat_cmp_total}
+use Rattle.std.specs.List.Sorted.{IsBinarySearchResult, IsSearchInRange, IsSortedBy}
+use Rattle.std.specs.Result.{result_ok}
+use Rattle.std.proofs.lemmas.List.Sorted.{searchable_from_sorted}
+use Rattle.std.proofs.lemmas.Map.Text.{is_eq-slice_cmp}
+use Rattle.std.proofs.lemmas.Slice.Eq.{bytes_eq-Decides}
+use Rattle.std.specs.Cmp.{nat_cmp_total, tied_itself}
+use Rattle.std.proofs.Math.Bool.{or_assoc}
 use Rattle.std.specs.Cmp.Lexicographic.{lists_total}
-use Rattle.std.specs.Ordering.{is_lt, ordering_reverse, ordering_then, MatchOrdering, nat_cmp}
+use Rattle.std.specs.Ordering.{is_lt, is_eq, ordering_reverse, nat_cmp}
 use Rattle.model.specs.Lists.{any}
 use Rattle.model.specs.Spelling.{Between}
 use Rattle.model.specs.Tree.{numbered}
 use Rattle.model.specs.TreeFiles.{among}
-use Rattle.tree_files.specs.Limited.{is_less, any_at, distinct_from}
+use Rattle.tree_files.specs.Limited.{is_less, any_at, distinct_from, as_many}
+use Rattle.tree_files.specs.Texts.{texts_in}
+use Rattle.tree_files.specs.declared.names.Names.{Names}
 use Rattle.wire.specs.declared.span.Span.{Span}
 use Rattle.wire.specs.Told.{spanned}
-use Rattle.tree_files.specs.Names.{texts_of, compared, name_at, Indexed, Parts, Stands, Fresh}
-use Rattle.tree_files.proofs.Names.{among_yes, among_not, numbered_yes, numbered_not}
+use Rattle.tree_files.specs.Names.{texts_of, compared, name_at, Indexed, Parts, Stands, Placed, Fresh}
+use Rattle.tree_files.proofs.Named.{among_yes, among_not, numbered_yes, numbered_not}
 
-pub compared_equal : (s t : List ℕ) → compared s t ≡ Equal → s ≡ t
-compared_equal [] [] h = refl
-compared_equal [] (y ∷ ys) h = let z : ◌≡◌ {A = ℕ} 0 1 = cc in absurd (omega arith)
-compared_equal (x ∷ xs) [] h = let z : ◌≡◌ {A = ℕ} 0 1 = cc in absurd (omega arith)
-compared_equal (x ∷ xs) (y ∷ ys) h = go (compared_equal xs ys) (nat_cmp x y) (ranks x y) h
-  where
-    go : (compared xs ys ≡ Equal → xs ≡ ys) → (o : Ordering) → MatchOrdering o (x < y) (x ≡ y) (y < x) → ordering_then o (compared xs ys) ≡ Equal → x ∷ xs ≡ y ∷ ys
-    go rest Less r e = let z : ◌≡◌ {A = ℕ} 0 1 = cc in absurd (omega arith)
-    go rest Equal r e = ap₂ (λ (a : ℕ) (l : List ℕ). a ∷ l) r (rest e)
-    go rest Greater r e = let z : ◌≡◌ {A = ℕ} 0 1 = cc in absurd (omega arith)
+compared_equal : (s t : List ℕ) → compared s t ≡ Equal → s ≡ t
+compared_equal s t h = (bytes_eq-Decides s t).0 (sym (is_eq-slice_cmp s t) ∙ ap is_eq h)
 
 turned : (s t : List ℕ) (o : Ordering) → compared s t ≡ o → compared t s ≡ ordering_reverse o
 turned s t o h = (lists_total nat_cmp_total).antisymm t s ∙ ap ordering_reverse h
@@ -35,32 +35,32 @@ module _ (texts : List (List ℕ)) (order : List ℕ) (x : Indexed texts order) 
   abbrev at : ℕ → List ℕ
   at i = name_at texts order i
 
-  pub all_less : (i : ℕ) → i < length order → compared (at i) t ≡ Less → (k : ℕ) → k < i + 1 → compared (at k) t ≡ Less
-  all_less i h e k l = ⊎_elim
-      (λ s. subst (λ j. compared (at j) t ≡ Less) (sym s) e)
-      (⊎_elim (λ b. (lists_total nat_cmp_total).trans (at k) (at i) t (is_less _ (x.ascending k i (b, h))) e) (λ b. absurd (omega arith)))
-      (cases_order k i)
+  abbrev named : ℕ → List ℕ
+  named n = get_or texts n []
 
-  pub all_greater : (i : ℕ) → i < length order → compared (at i) t ≡ Greater → (k : ℕ) → i ≤ k → k < length order → compared (at k) t ≡ Greater
-  all_greater i h e k l b = ⊎_elim
-      (λ s. subst (λ j. compared (at j) t ≡ Greater) s e)
-      (⊎_elim (λ u. turned t (at k) Less ((lists_total nat_cmp_total).trans t (at i) (at k) (turned (at i) t Greater e) (is_less _ (x.ascending i k (u, b))))) (λ u. absurd (omega arith)))
-      (cases_order i k)
+  up : IsSortedBy (λ m n. is_lt (compared (named m) (named n))) order
+  up k d l h =
+      let e : get_or order k d ≡ get_or order k 0 = get_or_default order k d 0 (omega arith) in
+      let f : get_or order (k + 1) d ≡ get_or order (k + 1) 0 = get_or_default order (k + 1) d 0 h in
+      let r = turned (at k) (at (k + 1)) Less (is_less _ (x.ascending k (k + 1) (omega arith, h))) in
+      ap₂ (λ m n. is_lt (compared (named m) (named n))) f e ∙ ap is_lt r
+
+  -- what the search found
+  pub placed : (r : Result ℕ ℕ) → IsSearchInRange r (length order) → IsBinarySearchResult (λ n. compared (named n) t) order r → Placed texts order t r
+  placed (Ok i) b h = record { high = b; here = compared_equal _ _ (h 0) }
+  placed (Err i) b h =
+      let p = h (searchable_from_sorted (lists_total nat_cmp_total) named order t up) in
+      record { high = b; below = λ k l. p.0 k 0 (omega arith) l; above = λ k l m. p.1 k 0 l m }
 
   -- where the search ends without a find
   unequal : (o : Ordering) (s : List ℕ) → compared s t ≡ o → (o ≡ Equal → ⊥) → s ≡ t → ⊥
-  unequal o s h f e = f (sym h ∙ ap (λ u. compared u t) e ∙ itself (compared t t) ((lists_total nat_cmp_total).antisymm t t))
-    where
-      itself : (o : Ordering) → o ≡ ordering_reverse o → o ≡ Equal
-      itself Less h = let z : ◌≡◌ {A = ℕ} 0 1 = cc in absurd (omega arith)
-      itself Equal h = refl
-      itself Greater h = let z : ◌≡◌ {A = ℕ} 0 1 = cc in absurd (omega arith)
+  unequal o s h f e = f (sym h ∙ ap (λ u. compared u t) e ∙ tied_itself (lists_total nat_cmp_total) t)
 
   module _ (i : ℕ) (p : Parts texts order t i) where
     nowhere : (k : ℕ) → k < length order → at k ≡ t → ⊥
     nowhere k h = ⊎_elim
-        (λ l. unequal Less (at k) (p.below k l) (λ e. let z : ◌≡◌ {A = ℕ} 0 1 = cc in omega arith))
-        (λ l. unequal Greater (at k) (p.above k l h) (λ e. let z : ◌≡◌ {A = ℕ} 0 1 = cc in omega arith))
+        (λ l. unequal Less (at k) (p.below k l) (λ e. cc))
+        (λ l. unequal Greater (at k) (p.above k l h) (λ e. cc))
         (cases_lt k i)
 
     no_node : (n : ℕ) → n < length texts → get_or texts n [] ≡ t → ⊥
@@ -98,11 +98,7 @@ slot i k = ⊎_elim here (⊎_elim before (λ l. after (k - 1) (omega arith) (om
 
 any_append : (p : ℕ → Bool) (xs ys : List ℕ) → any p (xs ++ ys) ≡ (any p xs || any p ys)
 any_append p [] ys = refl
-any_append p (x ∷ xs) ys = ap (λ b. p x || b) (any_append p xs ys) ∙ assoc (p x) (any p xs) (any p ys)
-  where
-    assoc : (a b c : Bool) → (a || (b || c)) ≡ ((a || b) || c)
-    assoc true b c = refl
-    assoc false b c = refl
+any_append p (x ∷ xs) ys = ap (λ b. p x || b) (any_append p xs ys) ∙ sym (or_assoc (p x) (any p xs) (any p ys))
 
 any_inserted : (p : ℕ → Bool) (xs : List ℕ) (i y : ℕ) → (any p xs ≡ true) ⊎ (p y ≡ true) → any p (insert xs i y) ≡ true
 any_inserted p xs i y (inl h) =
@@ -194,20 +190,24 @@ module _ (texts : List (List ℕ)) (order : List ℕ) (x : Indexed texts order) 
     complete = every;
   }
 
-pub indexed_none : Indexed [] []
-indexed_none = record {
-  as_many = refl;
-  named = λ n h. absurd (omega arith);
-  inside = λ k h. absurd (omega arith);
-  ascending = λ a b h. absurd (omega arith);
-  complete = λ n h. absurd (omega arith);
-}
-
 -- AS THE CODE HAS IT
 
--- what a comparison told
-pub told_order : (text s t : List ℕ) (o : Ordering) → text ≡ s → o ≡ compared text t → compared s t ≡ o
-told_order text s t o e h = ap (λ u. compared u t) (sym e) ∙ sym h
+pub indexed : (n : Names) → Indexed (texts_in n) (vec_items n.order)
+indexed n = record {
+  as_many = sym n.order.ok.0 ∙ n.as_many ∙ as_many n;
+  named = n.named;
+  inside = n.inside;
+  ascending = n.ascending;
+  complete = n.complete;
+}
+
+pub stands_at : (texts : List (List ℕ)) (order t : List ℕ) (r : Result ℕ ℕ) (i : ℕ) → Placed texts order t r → Some i ≡ result_ok r → Stands texts order t i
+stands_at texts order t (Ok j) i p e = let s : j ≡ i = cc in subst (Stands texts order t) s p
+stands_at texts order t (Err j) i p e = cc
+
+pub stands_nowhere : (n : Names) (t : List ℕ) (r : Result ℕ ℕ) → Placed (texts_in n) (vec_items n.order) t r → None ≡ result_ok r → None ≡ numbered 0 (texts_in n) t
+stands_nowhere n t (Ok i) p e = cc
+stands_nowhere n t (Err i) p e = sym (none_numbered (texts_in n) (vec_items n.order) (indexed n) t i p)
 
 pub names_more : (bytes : List ℕ) (names : List Span) (order : List ℕ) (names' : List Span) (order' : List ℕ) (s : Span) (i num : ℕ)
     → Indexed (texts_of bytes names) order → Fresh (texts_of bytes names) order (spanned bytes s) i

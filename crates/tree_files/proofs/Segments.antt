@@ -1,69 +1,52 @@
--- Paths: what their tests say of segments, and the links that are found from them. Assumes nothing.
-use Rattle.std.proofs.Common.{◌≡◌, ℕ, zero, suc, ◌+◌, ◌-◌, ◌<◌, ◌≤◌, Bool, true, false, not, ◌&&◌, ◌||◌, eqb, ltb, List, [], ◌∷◌, ◌++◌, length, get_or, take, drop, Some, None, Ok, Option, sym, refl, ap, ◌∙◌, subst, ap₂, ⊎_elim, arith}
-use mathlib.Core.Path.{fun_ext}
+-- Paths: a path's parent, and the links that are found from it. Assumes nothing.
+use Rattle.std.proofs.Common.{◌≡◌, ℕ, zero, suc, ◌+◌, ◌-◌, ◌<◌, ◌≤◌, Bool, true, false, ◌&&◌, ◌||◌, eqb, ltb, List, [], ◌∷◌, ◌++◌, length, get_or, take, drop, cond, Some, None, Option, sym, refl, ap, ◌∙◌, subst, ⊎_elim, arith}
 use mathlib.Core.List.Memᴰ
 use mathlib.Core.List.{Memᴰ}
 use Rattle.std.proofs.lemmas.List.{length-append, length-drop, get_or-drop, get_or-append_right, take_at, drop_more, take-append-drop}
-use Rattle.std.proofs.lemmas.Bool.{and_parts, and_from, and_left, and_right, or_left, or_right, or_from, eqb-true, eq-eqb, eqb-false, ne_eqb, not-true, not_from_false, lt-ltb, le-ltb, ltb-true, cases_lt, cases_eq, cases_order, cases_Bool, both_ways, false≢true}
-use Rattle.model.specs.Lists.{any}
-use Rattle.model.specs.Layout.{Reading, got, refused, on, end, outcome}
-use Rattle.model.specs.Tree.{Tree, numbered}
-use Rattle.model.specs.TreeFiles.{separator, child_path, linked_by_path, has_link, path_tree, name_list, hollow, read_path_tree}
+use Rattle.std.proofs.lemmas.Bool.{and_parts, and_from, and_left, and_right, eqb-true, eq-eqb, ne_eqb, lt-ltb, le-ltb, ltb-true, cases_lt, cases_eq, cases_order, cases_Bool, both_ways}
+use Rattle.std.specs.List.{list_any, slice_split, onto_first}
+use Rattle.model.specs.Tree.{numbered}
+use Rattle.model.specs.TreeFiles.{separator, child_path, linked_by_path, has_link, hollow}
 use Rattle.tree_files.specs.Limited.{distinct_from}
 use Rattle.tree_files.specs.Names.{Indexed}
-use Rattle.tree_files.specs.Segments.{ChildOf, BySegments, LastSeparator, Parent, ParentNode, LinkedBelow}
-use Rattle.tree_files.proofs.Links.{either_way}
-use Rattle.tree_files.proofs.Names.{same_true, same_yes}
+use Rattle.tree_files.specs.Segmented.{segment_of, child_from}
+use Rattle.tree_files.specs.Segments.{ChildOf, LastSeparator, Parent, ParentNode, LinkedBelow}
+use Rattle.std.specs.Cmp.{both_ways as same_answer}
+use Rattle.std.proofs.Math.Bool.{or_assoc, or-false}
+use Rattle.tree_files.proofs.Named.{same_yes}
+use Rattle.model.proofs.Values.{same_true}
 
-any_mem : (xs : List ℕ) → any (eqb separator) xs ≡ false → Memᴰ separator xs → ⊥
-any_mem [] h m = Memᴰ.not-nil m
-any_mem (x ∷ xs) h m = ⊎_elim
-    (λ e. both_ways (eqb separator x || any (eqb separator) xs) h (or_left (eqb separator x) (any (eqb separator) xs) (eq-eqb separator x e)))
-    (λ t. any_mem xs (⊎_elim (λ e. absurd (both_ways (eqb separator x || any (eqb separator) xs) h (or_right (eqb separator x) (any (eqb separator) xs) e))) (λ e. e) (cases_Bool (any (eqb separator) xs))) t)
-    (Memᴰ.cases_cons m)
+-- EMPTY SEGMENTS
 
-mem_any : (xs : List ℕ) → (Memᴰ separator xs → ⊥) → any (eqb separator) xs ≡ false
-mem_any [] f = refl
-mem_any (x ∷ xs) f = or_from (eqb separator x) (any (eqb separator) xs) (ne_eqb separator x (λ e. f (Memᴰ.head e))) (mem_any xs (λ m. f (Memᴰ.tail m)))
+abbrev any_empty : List (List ℕ) → Bool
+any_empty parts = list_any (λ part. eqb (length part) 0) parts
 
--- THE TEST AND THE SEGMENT
+abbrev after_first : List (List ℕ) → List (List ℕ)
+after_first [] = []
+after_first (part ∷ parts) = parts
 
-pub segment_of : (p c : List ℕ) → child_path p c ≡ true → ChildOf p c
-segment_of [] [] h = absurd (false≢true h)
-segment_of [] (b ∷ bs) h =
-    let u = and_parts (eqb b separator && not (any (eqb separator) bs)) (not (eqb (length bs) 0)) h in
-    let v = and_parts (eqb b separator) (not (any (eqb separator) bs)) u.0 in
-    let z = eqb-false (length bs) 0 (not-true (eqb (length bs) 0) u.1) in
-    record {
-      segment = bs;
-      named = ap (λ (x : ℕ). x ∷ bs) (eqb-true b separator v.0);
-      some = ⊎_elim (λ l. l) (λ l. absurd (z (omega arith))) (cases_lt 0 (length bs));
-      plain = any_mem bs (not-true (any (eqb separator) bs) v.1);
-    }
-segment_of (x ∷ xs) [] h = absurd (false≢true h)
-segment_of (x ∷ xs) (y ∷ ys) h =
-    let u = and_parts (eqb x y) (child_path xs ys) h in
-    let r = segment_of xs ys u.1 in
-    record { segment = r.segment; named = ap₂ (λ (a : ℕ) (l : List ℕ). a ∷ l) (sym (eqb-true x y u.0)) r.named; some = r.some; plain = r.plain }
+onto_none : (b : ℕ) (parts : List (List ℕ)) → any_empty (onto_first b parts) ≡ any_empty (after_first parts)
+onto_none b [] = ap (λ e. e || false) (ne_eqb (length (b ∷ [])) 0 (λ e. omega arith))
+onto_none b (part ∷ parts) = ap (λ e. e || any_empty parts) (ne_eqb (length (b ∷ part)) 0 (λ e. omega arith))
 
-made_of : (p s : List ℕ) → 1 ≤ length s → (Memᴰ separator s → ⊥) → child_path p (p ++ separator ∷ s) ≡ true
-made_of [] s h f =
-    and_from (eqb separator separator && not (any (eqb separator) s)) (not (eqb (length s) 0))
-    (and_from (eqb separator separator) (not (any (eqb separator) s)) refl (not_from_false (any (eqb separator) s) (mem_any s f)))
-    (not_from_false (eqb (length s) 0) (ne_eqb (length s) 0 (λ e. omega arith)))
-made_of (x ∷ xs) s h f = and_from (eqb x x) (child_path xs (xs ++ separator ∷ s)) (eq-eqb x x refl) (made_of xs s h f)
+onto_after : (b : ℕ) (parts : List (List ℕ)) → after_first (onto_first b parts) ≡ after_first parts
+onto_after b [] = refl
+onto_after b (part ∷ parts) = refl
 
-pub child_from : (p c : List ℕ) → ChildOf p c → child_path p c ≡ true
-child_from p c r = subst (λ l. child_path p l ≡ true) (sym r.named) (made_of p r.segment r.some r.plain)
+hollow_step : (b : ℕ) (e : Bool) (parts : List (List ℕ)) (x y : Bool) → (any_empty parts ≡ x) × (any_empty (after_first parts) ≡ y)
+    → (any_empty (cond e ([] ∷ parts) (onto_first b parts)) ≡ cond e (true || x) y) × (any_empty (after_first (cond e ([] ∷ parts) (onto_first b parts))) ≡ cond e (false || x) y)
+hollow_step b true parts x y h = (refl, h.0)
+hollow_step b false parts x y h = (onto_none b parts ∙ h.1, ap any_empty (onto_after b parts) ∙ h.1)
 
-pub by_segments : (names : List (List ℕ)) → BySegments (path_tree names)
-by_segments names p c = (
-  λ h. let u = and_parts (ltb p (length names) && ltb c (length names)) (child_path (get_or names p []) (get_or names c [])) h in
-      let v = and_parts (ltb p (length names)) (ltb c (length names)) u.0 in
-      (ltb-true p (length names) v.0, ltb-true c (length names) v.1, segment_of (get_or names p []) (get_or names c []) u.1),
-  λ h. and_from (ltb p (length names) && ltb c (length names)) (child_path (get_or names p []) (get_or names c []))
-      (and_from (ltb p (length names)) (ltb c (length names)) (lt-ltb p (length names) h.0) (lt-ltb c (length names) h.1)) (child_from (get_or names p []) (get_or names c []) h.2),
-)
+abbrev parts_of : List ℕ → List (List ℕ)
+parts_of path = slice_split (λ b. eqb b separator) path
+
+hollow_parts : (bs : List ℕ) → (any_empty (parts_of bs) ≡ hollow true bs) × (any_empty (after_first (parts_of bs)) ≡ hollow false bs)
+hollow_parts [] = (refl, refl)
+hollow_parts (b ∷ bs) = hollow_step b (eqb b separator) (parts_of bs) (hollow true bs) (hollow false bs) (hollow_parts bs)
+
+pub hollow_split : (path : List ℕ) → list_any (λ part. eqb (length part) 0) (slice_split (λ b. eqb b separator) path) ≡ hollow true path
+hollow_split path = (hollow_parts path).0
 
 -- THE LAST SEPARATOR
 
@@ -127,7 +110,7 @@ module _ (c : List ℕ) (i : ℕ) (l : LastSeparator c (length c) (Some i)) wher
 -- THE PARENT'S NODE
 
 numbered_some : (k : ℕ) (texts : List (List ℕ)) (t : List ℕ) (m : ℕ) → Some m ≡ numbered k texts t → (n : ℕ) × (m ≡ k + n) × (n < length texts) × (get_or texts n [] ≡ t)
-numbered_some k [] t m e = let z : ◌≡◌ {A = ℕ} 0 1 = cc in absurd (omega arith)
+numbered_some k [] t m e = cc
 numbered_some k (x ∷ xs) t m e = go (Rattle.model.specs.Values.same x t) refl e (numbered_some (k + 1) xs t m)
   where
     go : (b : Bool) → Rattle.model.specs.Values.same x t ≡ b → Some m ≡ mathlib.Core.Bool.cond b (Some k) (numbered (k + 1) xs t)
@@ -143,7 +126,7 @@ numbered_none k (x ∷ xs) t e n h q = go (Rattle.model.specs.Values.same x t) r
     go : (b : Bool) → Rattle.model.specs.Values.same x t ≡ b → None ≡ mathlib.Core.Bool.cond b (Some k) (numbered (k + 1) xs t)
         → (None ≡ numbered (k + 1) xs t → (n : ℕ) → n < length xs → get_or xs n [] ≡ t → ⊥)
         → (n : ℕ) → n < length (x ∷ xs) → get_or (x ∷ xs) n [] ≡ t → ⊥
-    go true s e rest n h q = let z : ◌≡◌ {A = ℕ} 0 1 = cc in omega arith
+    go true s e rest n h q = cc
     go false s e rest zero h q = both_ways (Rattle.model.specs.Values.same x t) s (same_yes x t q)
     go false s e rest (suc n) h q = rest e n (omega arith) q
 
@@ -159,22 +142,11 @@ node_of_parent texts order x path q h (Some m) e =
       λ p l t. distinct_from texts order x.ascending x.complete p m l low (h.1 (get_or texts p []) t ∙ sym name),
     )
 
-pub no_parent : (texts : List (List ℕ)) (path : List ℕ) → Parent path None → ParentNode texts path None
-no_parent texts path h = λ p l t. h (get_or texts p []) t
-
 -- THE LINKS
 
 has_push : (ls : List (ℕ × ℕ)) (n i p c : ℕ) → has_link (ls ++ (n, i) ∷ []) p c ≡ (has_link ls p c || (eqb n p && eqb i c))
-has_push [] n i p c = last (eqb n p && eqb i c)
-  where
-    last : (b : Bool) → (b || false) ≡ b
-    last true = refl
-    last false = refl
-has_push (l ∷ ls) n i p c = ap (λ b. (eqb l.0 p && eqb l.1 c) || b) (has_push ls n i p c) ∙ assoc (eqb l.0 p && eqb l.1 c) (has_link ls p c) (eqb n p && eqb i c)
-  where
-    assoc : (a b c : Bool) → (a || (b || c)) ≡ ((a || b) || c)
-    assoc true b c = refl
-    assoc false b c = refl
+has_push [] n i p c = or-false (eqb n p && eqb i c)
+has_push (l ∷ ls) n i p c = ap (λ b. (eqb l.0 p && eqb l.1 c) || b) (has_push ls n i p c) ∙ sym (or_assoc (eqb l.0 p && eqb l.1 c) (has_link ls p c) (eqb n p && eqb i c))
 
 module _ (texts : List (List ℕ)) (links : List (ℕ × ℕ)) (i : ℕ) (low : i < length texts) (so_far : LinkedBelow texts links i) where
   abbrev by_path : ℕ → ℕ → Bool
@@ -208,37 +180,16 @@ module _ (texts : List (List ℕ)) (links : List (ℕ × ℕ)) (i : ℕ) (low : 
   pub one_link : (n : ℕ) → ParentNode texts (get_or texts i []) (Some n) → LinkedBelow texts (links ++ (n, i) ∷ []) (i + 1)
   one_link n one p c = has_push links n i p c ∙ ⊎_elim here there (cases_eq c i)
     where
-      or_false : (b : Bool) → (b || false) ≡ b
-      or_false true = refl
-      or_false false = refl
-
       there : (c ≡ i → ⊥) → (has_link links p c || (eqb n p && eqb i c)) ≡ (ltb c (i + 1) && by_path p c)
-      there ne = ap (λ b. has_link links p c || b) (and_right (eqb n p) (eqb i c) (ne_eqb i c (λ e. ne (sym e)))) ∙ or_false (has_link links p c) ∙ other p c ne
+      there ne = ap (λ b. has_link links p c || b) (and_right (eqb n p) (eqb i c) (ne_eqb i c (λ e. ne (sym e)))) ∙ or-false (has_link links p c) ∙ other p c ne
 
       at_i : (has_link links p i || (eqb n p && eqb i i)) ≡ (ltb i (i + 1) && by_path p i)
       at_i =
           ap (λ b. b || (eqb n p && eqb i i)) (here_not p)
-          ∙ either_way (eqb n p && eqb i i) (by_path p i)
+          ∙ same_answer (eqb n p && eqb i i) (by_path p i)
           (λ t. let e = eqb-true n p (and_parts (eqb n p) (eqb i i) t).0 in subst (λ j. by_path j i ≡ true) e (path_from n one.0 one.1))
           (λ t. let u = path_parts p t in and_from (eqb n p) (eqb i i) (eq-eqb n p (sym (one.2 p u.0 u.1))) (eq-eqb i i refl))
           ∙ sym (here_now p)
 
       here : c ≡ i → (has_link links p c || (eqb n p && eqb i c)) ≡ (ltb c (i + 1) && by_path p c)
       here e = subst (λ j. (has_link links p j || (eqb n p && eqb i j)) ≡ (ltb j (i + 1) && by_path p j)) (sym e) at_i
-
-pub linked_none : (texts : List (List ℕ)) → LinkedBelow texts [] 0
-linked_none texts p c = sym (and_left (ltb c 0) (linked_by_path texts p c) (le-ltb c 0 (omega arith)))
-
-pub linked_all : (texts : List (List ℕ)) (links : List (ℕ × ℕ)) → LinkedBelow texts links (length texts) → has_link links ≡ linked_by_path texts
-linked_all texts links h = fun_ext (λ p. fun_ext (λ c. h p c ∙ either_way (ltb c (length texts) && linked_by_path texts p c) (linked_by_path texts p c)
-    (λ t. (and_parts (ltb c (length texts)) (linked_by_path texts p c) t).1)
-    (λ t. and_from (ltb c (length texts)) (linked_by_path texts p c) (and_parts (ltb p (length texts)) (ltb c (length texts)) (and_parts (ltb p (length texts) && ltb c (length texts)) (child_path (get_or texts p []) (get_or texts c [])) t).0).1 t)))
-
--- what is read as a path tree
-by_reading : (z : Reading (List (List ℕ))) (tree : Tree) → Ok tree ≡ outcome (on (on z (λ names q ds. got (path_tree names) q ds)) end) → BySegments tree
-by_reading (got names q []) tree e = let s : path_tree names ≡ tree = cc in subst BySegments s (by_segments names)
-by_reading (got names q (b ∷ bs)) tree e = let z : ◌≡◌ {A = ℕ} 0 1 = cc in absurd (omega arith)
-by_reading (refused r) tree e = let z : ◌≡◌ {A = ℕ} 0 1 = cc in absurd (omega arith)
-
-pub read_by_segments : (bs : List ℕ) (tree : Tree) → Ok tree ≡ read_path_tree bs → BySegments tree
-read_by_segments bs tree e = by_reading (name_list (hollow true) 0 bs) tree e

@@ -4,4 +4,4 @@ use Rattle.tree_files.specs.declared.kept.Kept.{Kept}
 use Rattle.tree_files.specs.Held.{tree_in}
 
 abbrev pub tree_of : Kept → Tree
-tree_of k = tree_in k.bytes.now k.tables
+tree_of k = tree_in k.tables

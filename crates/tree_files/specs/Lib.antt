@@ -7,3 +7,6 @@ pub mod Held
 pub mod Kept
 pub mod Limited
 pub mod Trees
+pub mod Texts
+pub mod Format
+pub mod Segmented

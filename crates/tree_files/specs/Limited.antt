@@ -6,25 +6,20 @@ use Rattle.std.proofs.Common.{sym, ap, subst, ◌∙◌, ⊎_elim, arith}
 use Rattle.std.proofs.lemmas.List.{length-map}
 use Rattle.std.proofs.lemmas.Bool.{eqb-true, or_cases, and_parts, false≢true, cases_order}
 use Rattle.std.specs.Ordering.{is_lt, ordering_reverse}
-use Rattle.std.specs.Cmp.{nat_cmp_total}
+use Rattle.std.specs.Cmp.{nat_cmp_total, tied_itself}
 use Rattle.model.specs.Lists.{any}
 use Rattle.model.specs.Tree.{Limits}
 use Rattle.model.specs.TreeFiles.{has_link, linked_tree}
 use Rattle.wire.specs.Told.{spanned}
 use Rattle.tree_files.specs.declared.kept.Kept.{Kept}
-use Rattle.tree_files.specs.declared.linked.LinkedTree.{LinkedTree}
-use Rattle.tree_files.specs.declared.paths.PathTree.{PathTree}
+use Rattle.tree_files.specs.declared.file.TreeFile.{TreeFile}
+use Rattle.tree_files.specs.declared.names.Names.{Names}
 use Rattle.tree_files.specs.Kept.{tree_of}
-use Rattle.tree_files.specs.Trees.{linked_of, path_of}
-use Rattle.tree_files.specs.Names.{texts_of, compared, name_at, Named, Ascending, Complete}
+use Rattle.tree_files.specs.Texts.{texts_in}
+use Rattle.tree_files.specs.Trees.{tree_of_file}
+use Rattle.tree_files.specs.Names.{compared, name_at, Named, Ascending, Complete}
 use Rattle.tree_files.specs.Links.{Ends}
 use Rattle.std.specs.Cmp.Lexicographic.{lists_total}
-
--- what is not less than itself
-not_less : (o : Ordering) → o ≡ ordering_reverse o → o ≢ Less
-not_less Less h e = let z : ◌≡◌ {A = ℕ} 0 1 = cc in omega arith
-not_less Equal h e = let z : ◌≡◌ {A = ℕ} 0 1 = cc in omega arith
-not_less Greater h e = let z : ◌≡◌ {A = ℕ} 0 1 = cc in omega arith
 
 pub is_less : (o : Ordering) → is_lt o ≡ true → o ≡ Less
 is_less Less h = refl
@@ -32,7 +27,7 @@ is_less Equal h = absurd (false≢true h)
 is_less Greater h = absurd (false≢true h)
 
 pub less_apart : (s t : List ℕ) → is_lt (compared s t) ≡ true → s ≢ t
-less_apart s t h e = not_less (compared s s) ((lists_total nat_cmp_total).antisymm s s) (ap (compared s) e ∙ is_less (compared s t) h)
+less_apart s t h e = false≢true (sym (ap is_lt (tied_itself (lists_total nat_cmp_total) s)) ∙ ap (λ u. is_lt (compared s u)) e ∙ h)
 
 pub any_at : (n : ℕ) (xs : List ℕ) → any (nat_eq n) xs ≡ true → (i : ℕ) × (i < length xs) × (slice_index xs i ≡ n)
 any_at n [] h = absurd (false≢true h)
@@ -69,15 +64,13 @@ limits_from texts order links few named up all ends = record {
   between_nodes = λ m n h. let r = link_at links m n h in let e = ends r.0 r.1 in (omega (arith, e.0, r.2), omega (arith, e.1, r.3));
 }
 
-pub as_many : (k : Kept) → vec_len k.tables.names ≡ length (texts_of k.bytes.now (vec_items k.tables.names))
-as_many k = k.tables.names.ok.0 ∙ sym (length-map (vec_items k.tables.names) (spanned k.bytes.now))
+pub as_many : (n : Names) → vec_len n.spans ≡ length (texts_in n)
+as_many n = n.spans.ok.0 ∙ sym (length-map (vec_items n.spans) (spanned n.bytes.now))
 
 pub kept_limits : (k : Kept) → Limits (tree_of k)
-kept_limits k = limits_from (texts_of k.bytes.now (vec_items k.tables.names)) (vec_items k.tables.order) (vec_items k.tables.links)
-    (subst (λ n. n ≤ 1024) (as_many k) k.few) k.named k.ascending k.complete (subst (λ n. Ends n (vec_items k.tables.links)) (as_many k) k.ends)
+kept_limits k =
+    let n = k.tables.names in
+    limits_from (texts_in n) (vec_items n.order) (vec_items k.tables.links) (subst (λ m. m ≤ 1024) (as_many n) n.few) n.named n.ascending n.complete k.ends
 
-pub linked_limits : (t : LinkedTree) → Limits (linked_of t)
-linked_limits t = kept_limits t.kept
-
-pub path_limits : (t : PathTree) → Limits (path_of t)
-path_limits t = kept_limits t.kept
+pub file_limits : {F : Type 0} (t : TreeFile F) → Limits (tree_of_file t)
+file_limits t = kept_limits t.kept

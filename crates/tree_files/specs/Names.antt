@@ -1,29 +1,20 @@
 -- The names of a tree, and a table of the nodes in the order of their names. Assumes nothing.
-use Rattle.std.specs.Prelude.{◌≡◌, ℕ, ◌<◌, ◌≤◌, Bool, true, ◌&&◌, List, [], map, length, Ok, Err, Result, nat_eq, slice_index, slice_index_or}
+use Rattle.std.specs.Prelude.{◌≡◌, ℕ, ◌<◌, ◌≤◌, true, List, [], map, length, Ok, Err, Result, nat_eq, slice_index, slice_index_or}
 use Rattle.std.specs.declared.cmp.Ordering.TheVariants.{Less, Greater}
 use Rattle.std.specs.declared.cmp.Ordering.{Ordering}
-use Rattle.std.specs.Borrow.{Bor}
 use Rattle.std.specs.Cmp.Lexicographic.{slice_cmp}
 use Rattle.std.specs.Ordering.{is_lt, nat_cmp}
 use Rattle.model.specs.Lists.{any}
 use Rattle.model.specs.Spelling.{Between}
-use Rattle.model.specs.TreeFiles.{hollow}
 use Rattle.wire.specs.declared.span.Span.{Span}
 use Rattle.wire.specs.Told.{spanned}
-use Rattle.tree_files.specs.declared.read.names.NewName.{NewName}
+use Rattle.tree_files.specs.declared.names.NewName.{NewName}
 
 abbrev pub texts_of : List ℕ → List Span → List (List ℕ)
 texts_of bytes names = map (spanned bytes) names
 
-abbrev pub texts_behind : Bor (List ℕ) → List Span → List (List ℕ)
-texts_behind bytes names = texts_of bytes.now names
-
 abbrev pub name_in : List ℕ → NewName → List ℕ
 name_in bytes n = spanned bytes n.name
-
--- the names that a file may not have
-abbrev pub wrong_of : Bool → List ℕ → Bool
-wrong_of paths = λ t. paths && hollow true t
 
 -- bytes in the order of slices
 abbrev pub compared : List ℕ → List ℕ → Ordering

@@ -1,19 +1,8 @@
--- What the faults of a tree file say. Assumes nothing.
-use Rattle.model.specs.declared.item.Kind.TheVariants as kind
-use Rattle.model.specs.Layout.{Refusal, around_it}
-use Rattle.wire.specs.Told.{in_field}
-use Rattle.tree_files.specs.declared.fault.NameFault.{NameFault}
-use Rattle.tree_files.specs.declared.fault.LinkFault.{LinkFault}
-use Rattle.tree_files.specs.declared.fault.TreeFault.{TreeFault}
-use Rattle.tree_files.specs.declared.fault.TreeFault.TheVariants as in_tree
+-- What the faults of a tree file say: a name's or a link's in the file's. Assumes nothing.
+use Rattle.model.specs.Layout.{Refusal}
+use Rattle.wire.specs.declared.fault.Fault.{Fault}
+use Rattle.wire.specs.declared.fault.Refused.{Refused}
+use Rattle.wire.specs.Told.{in_field, in_refused}
 
-abbrev pub in_name_fault : NameFault → Refusal
-in_name_fault f = around_it (record { kind = kind.Name; number = f.number }) (in_field f.fault)
-
-abbrev pub in_link_fault : LinkFault → Refusal
-in_link_fault f = around_it (record { kind = kind.Link; number = f.number }) (in_field f.fault)
-
-abbrev pub in_tree_fault : TreeFault → Refusal
-in_tree_fault (in_tree.Field f) = in_field f
-in_tree_fault (in_tree.Name f) = in_name_fault f
-in_tree_fault (in_tree.Link f) = in_link_fault f
+abbrev pub in_tree_fault : Refused Fault → Refusal
+in_tree_fault f = in_refused in_field f

@@ -1,11 +1,7 @@
--- What the places of trees mean. Assumes nothing.
+-- What a place for a tree means. Assumes nothing.
 use Rattle.model.specs.Tree.{Tree}
-use Rattle.tree_files.specs.declared.linked.LinkedTree.{LinkedTree}
-use Rattle.tree_files.specs.declared.paths.PathTree.{PathTree}
+use Rattle.tree_files.specs.declared.file.TreeFile.{TreeFile}
 use Rattle.tree_files.specs.Kept.{tree_of}
 
-abbrev pub linked_of : LinkedTree → Tree
-linked_of t = tree_of t.kept
-
-abbrev pub path_of : PathTree → Tree
-path_of t = tree_of t.kept
+abbrev pub tree_of_file : {F : Type 0} → TreeFile F → Tree
+tree_of_file t = tree_of t.kept

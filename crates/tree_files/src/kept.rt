@@ -1,22 +1,71 @@
-ghost use Rattle.std.specs.Prelude.{◌≡◌, ◌≤◌, vec_len};
-ghost use Rattle.tree_files.specs.Names.{texts_behind, Named, InsideOf, Ascending, Complete};
+ghost use Rattle.std.specs.Prelude.{length};
+ghost use Rattle.tree_files.specs.Texts.{texts_in};
 ghost use Rattle.tree_files.specs.Links.{Ends, LinkAscending};
 
 use crate::tables::Tables;
+use std::alloc::{AllocError, Global};
+use std::mem::swap;
+use tree::Tree;
 
-pub mod questions;
-
-// The tree that was read last: its bytes, and the tables of them.
+// The tree that was read last.
 #[derive(Drop)]
 pub struct Kept<'a> {
-    pub bytes: &'a [u8],
-    pub tables: Tables,
-    ghost few: { vec_len tables.names ≤ 1024 },
-    ghost as_many: { vec_len tables.order ≡ vec_len tables.names },
-    ghost named: { Named (texts_behind bytes tables.names.items) },
-    ghost inside: { InsideOf (texts_behind bytes tables.names.items) tables.order.items },
-    ghost ascending: { Ascending (texts_behind bytes tables.names.items) tables.order.items },
-    ghost complete: { Complete (texts_behind bytes tables.names.items) tables.order.items },
-    ghost ends: { Ends (vec_len tables.names) tables.links.items },
+    tables: Tables<'a>,
+    ghost ends: { Ends (length (texts_in tables.names)) tables.links.items },
     ghost sorted: { LinkAscending tables.links.items },
+}
+
+impl<'a> Kept<'a> {
+    ghost use Rattle.std.specs.Prelude.{◌≡◌, IfOk};
+    ghost use Rattle.tree_files.specs.Held.{Good, no_tree, tree_in};
+    ghost use Rattle.tree_files.specs.Kept.{tree_of};
+
+    // No nodes.
+    pub(crate) fn new(heap: Global) -> Result<Kept<'a>, AllocError>
+        ensures { IfOk result (λ k. tree_of k ≡ no_tree) }
+    {
+        Ok(Kept {
+            tables: Tables::new(heap)?,
+        })
+    }
+
+    // Takes what was read, and leaves what was kept before.
+    pub(crate) fn take(&mut self, tables: &mut Tables<'a>)
+        requires { Good tables.old }
+        ensures { tree_of self.new ≡ tree_in tables.old }
+    {
+        swap(&mut self.tables, tables);
+    }
+}
+
+impl Tree for Kept<'_> {
+    ghost use Rattle.tree_files.specs.Kept.{tree_of};
+    ghost use Rattle.tree_files.specs.Limited.{kept_limits};
+
+    ghost meaning = { tree_of };
+
+    ghost limits = { kept_limits };
+
+    fn count(&self) -> usize {
+        self.tables.names.len()
+    }
+
+    // About log n comparisons of names.
+    fn find(&self, name: &[u8]) -> Option<usize> {
+        self.tables.names.find(name)
+    }
+
+    fn name(&self, node: usize) -> Option<&[u8]> {
+        self.tables.names.get(node)
+    }
+
+    // About log n comparisons of links.
+    fn child(&self, node: usize, from: usize) -> Option<usize> {
+        let links = self.tables.links.as_slice();
+        let next = links.partition_point(|link| *link < (node, from));
+        links
+            .get(next)
+            .filter(|link| link.0 == node)
+            .map(|link| link.1)
+    }
 }

@@ -1,17 +1,12 @@
 ghost use Rattle.std.specs.Prelude.{◌≤◌, vec_capacity};
 
-use wire::span::Span;
+use crate::names::Names;
 
 // What was read of a tree file, with room for what the longest one holds.
 #[derive(Drop)]
-pub struct Tables {
-    // The nodes' names, as parts of the bytes.
-    pub names: Vec<Span>,
-    // The nodes in the order of their names.
-    pub order: Vec<usize>,
-    // The links, each a parent and a child, in ascending order.
+pub struct Tables<'a> {
+    pub names: Names<'a>,
+    // The links, each a parent and a child; in ascending order once all are read.
     pub links: Vec<(usize, usize)>,
-    ghost name_room: { 1024 ≤ vec_capacity names },
-    ghost order_room: { 1024 ≤ vec_capacity order },
     ghost link_room: { 4096 ≤ vec_capacity links },
 }

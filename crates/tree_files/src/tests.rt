@@ -1,6 +1,7 @@
 use crate::fault::TreeFault;
 use crate::linked::LinkedTree;
 use crate::paths::PathTree;
+use model::refusal::{Defect, Refusal};
 use std::process::Abort;
 use std::test::Fail;
 use tree::Tree;
@@ -21,21 +22,19 @@ const PATHS: [u8; 24] = [
     b'/', b'q', b'/', b'm', 0,
 ];
 
+// The nodes that are reached from the first, each with its distance.
 fn reaches<T: Tree>(
     rt: &(impl Abort + AllocGlobal),
     tree: &T,
     extent: Extent,
-    nodes: &[usize],
-    distances: &[usize],
+    expected: &[(usize, usize)],
 ) -> Result<(), Fail> {
     let mut reach = Reach::new(rt.alloc())?;
     reach.search(tree, 0, extent);
-    assert_eq!(rt; reach.nodes().len(), nodes.len());
-    for (i, reached) in reach.nodes().iter().enumerate() {
-        if i < nodes.len() && i < distances.len() {
-            assert_eq!(rt; reached.node, nodes[i]);
-            assert_eq!(rt; reached.distance, distances[i]);
-        }
+    assert_eq!(rt; reach.nodes().len(), expected.len());
+    for (reached, (node, distance)) in reach.nodes().iter().zip(expected) {
+        assert_eq!(rt; reached.node, *node);
+        assert_eq!(rt; reached.distance, *distance);
     }
     Ok(())
 }
@@ -43,20 +42,18 @@ fn reaches<T: Tree>(
 fn refused(
     rt: &impl Abort,
     res: Result<(), TreeFault>,
-    number: u8,
+    defect: Defect,
     layer: u8,
     place: usize,
 ) -> Result<(), Fail> {
-    match res {
-        Ok(()) => Err(Fail::new("accepted")),
-        Err(fault) => {
-            let refusal = fault.refusal();
-            assert_eq!(rt; refusal.defect.number(), number);
-            assert_eq!(rt; refusal.layer(), layer);
-            assert_eq!(rt; refusal.place, place);
-            Ok(())
-        }
-    }
+    let Err(fault) = res else {
+        return Err(Fail::new("accepted"));
+    };
+    let refusal = Refusal::from(fault);
+    assert_eq!(rt; refusal.defect, defect);
+    assert_eq!(rt; refusal.layer(), layer);
+    assert_eq!(rt; refusal.place, place);
+    Ok(())
 }
 
 #[test]
@@ -67,23 +64,22 @@ fn linked_trees_are_reached(rt: HostRuntime) -> Result<(), Fail> {
         &rt,
         &tree,
         Extent::Descendants,
-        &[0, 2, 3, 1],
-        &[0, 1, 1, 2],
+        &[(0, 0), (2, 1), (3, 1), (1, 2)],
     )?;
-    reaches(&rt, &tree, Extent::Children, &[0, 2, 3], &[0, 1, 1])?;
+    reaches(&rt, &tree, Extent::Children, &[(0, 0), (2, 1), (3, 1)])?;
     assert_eq!(rt; tree.find(b"d"), Some(3));
     assert_eq!(rt; tree.find(b"e"), None);
     assert!(rt; tree.open(&CIRCLE).is_ok());
-    reaches(&rt, &tree, Extent::Descendants, &[0, 1], &[0, 1])
+    reaches(&rt, &tree, Extent::Descendants, &[(0, 0), (1, 1)])
 }
 
 #[test]
 fn path_trees_are_reached(rt: HostRuntime) -> Result<(), Fail> {
     let mut tree = PathTree::new(rt.alloc())?;
     assert!(rt; tree.open(&PATHS[0..23]).is_ok());
-    reaches(&rt, &tree, Extent::Descendants, &[0, 1, 2], &[0, 1, 2])?;
+    reaches(&rt, &tree, Extent::Descendants, &[(0, 0), (1, 1), (2, 2)])?;
     assert_eq!(rt; tree.child(1, 0), Some(2));
-    refused(&rt, tree.open(&PATHS), 14, 1, 23)?;
+    refused(&rt, tree.open(&PATHS), Defect::BytesLeft, 1, 23)?;
     assert_eq!(rt; tree.count(), 5);
     Ok(())
 }
@@ -91,17 +87,47 @@ fn path_trees_are_reached(rt: HostRuntime) -> Result<(), Fail> {
 #[test]
 fn linked_trees_are_refused(rt: HostRuntime) -> Result<(), Fail> {
     let mut tree = LinkedTree::new(rt.alloc())?;
-    refused(&rt, tree.open(&[]), 11, 1, 0)?;
-    refused(&rt, tree.open(&[4, 1]), 13, 1, 0)?;
-    refused(&rt, tree.open(&[0, 1, 0]), 13, 2, 2)?;
-    refused(&rt, tree.open(&[0, 2, 1, b'a', 1, b'a']), 16, 2, 4)?;
-    refused(&rt, tree.open(&[0, 1, 1, b'a', 0, 1, 0, 0, 0, 1]), 17, 2, 8)?;
-    refused(&rt, tree.open(&[0, 1, 1, b'a', 0, 0, 0]), 14, 1, 6)
+    refused(&rt, tree.open(&[]), Defect::EndsEarly, 1, 0)?;
+    refused(&rt, tree.open(&[4, 1]), Defect::OutOfRange, 1, 0)?;
+    refused(&rt, tree.open(&[0, 1, 0]), Defect::OutOfRange, 2, 2)?;
+    refused(
+        &rt,
+        tree.open(&[0, 2, 1, b'a', 1, b'a']),
+        Defect::NameRepeated,
+        2,
+        4,
+    )?;
+    refused(
+        &rt,
+        tree.open(&[0, 1, 1, b'a', 0, 1, 0, 0, 0, 1]),
+        Defect::NoSuchNode,
+        2,
+        8,
+    )?;
+    refused(
+        &rt,
+        tree.open(&[0, 1, 1, b'a', 0, 0, 0]),
+        Defect::BytesLeft,
+        1,
+        6,
+    )
 }
 
 #[test]
 fn path_trees_are_refused(rt: HostRuntime) -> Result<(), Fail> {
     let mut tree = PathTree::new(rt.alloc())?;
-    refused(&rt, tree.open(&[0, 1, 2, b'a', b'/']), 18, 2, 2)?;
-    refused(&rt, tree.open(&[0, 2, 1, b'/', 1, b'/']), 18, 2, 2)
+    refused(
+        &rt,
+        tree.open(&[0, 1, 2, b'a', b'/']),
+        Defect::EmptySegment,
+        2,
+        2,
+    )?;
+    refused(
+        &rt,
+        tree.open(&[0, 2, 1, b'/', 1, b'/']),
+        Defect::EmptySegment,
+        2,
+        2,
+    )
 }

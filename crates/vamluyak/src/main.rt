@@ -5,50 +5,43 @@ mod enquire;
 mod help;
 mod line;
 mod rows;
+mod session;
 mod singles;
 mod table;
+mod tally;
 mod work;
 
-use commandline::command::{Command, Misuse};
+use commandline::command::Command;
 use commandline::parse::parse;
 use enquire::enquire;
 use help::{HELP, VERSION};
 use inspect::below::below;
 use inspect::check::check;
 use inspect::decide::decide;
+use report::console::Console;
 use report::failed::Failed;
 use std::env;
 use std::process::ExitCode;
 
 fn run(rt: &HostRuntime, command: &Command) -> Result<(), Failed> {
+    let console = |tsv: &bool| Console { rt, tsv: *tsv };
     match command {
         Command::Help => Ok(rt.print(HELP)?),
         Command::Version => Ok(rt.println(VERSION)?),
-        Command::Check { source, tsv } => check(rt, source, *tsv),
+        Command::Check { source, tsv } => check(console(tsv), source),
         Command::Below {
             name,
             tree,
             children,
             tsv,
-        } => below(rt, name.as_str(), tree, *children, *tsv),
+        } => below(console(tsv), name.as_str(), tree, *children),
         Command::Decide {
             request,
             point,
             tsv,
-        } => decide(rt, request.as_str(), point, *tsv),
-        Command::Enquire { task, files, tsv } => enquire(rt, files, *task, *tsv),
+        } => decide(console(tsv), request.as_str(), point),
+        Command::Enquire { task, files, tsv } => enquire(console(tsv), files, *task),
     }
-}
-
-fn refuse_words(rt: &HostRuntime, misuse: &Misuse) -> Result<(), Failed> {
-    match misuse {
-        Misuse::Missing(what) => eprint!(rt; "vamluyak: {what} is missing")?,
-        Misuse::Unknown(word) => eprint!(rt; "vamluyak: unknown word '{word}'")?,
-        Misuse::Twice(what) => eprint!(rt; "vamluyak: {what} is named twice")?,
-        Misuse::Needless(what) => eprint!(rt; "vamluyak: {what}")?,
-    }
-    rt.eprintln("; vamluyak --help says how it is used")?;
-    Err(Failed)
 }
 
 // Reads the words and does what they ask for.
@@ -57,7 +50,10 @@ fn obey(rt: &HostRuntime) -> Result<(), Failed> {
     let _program = words.next();
     match parse(words) {
         Ok(command) => run(rt, &command),
-        Err(misuse) => refuse_words(rt, &misuse),
+        Err(misuse) => {
+            eprintln!(rt; "vamluyak: {misuse}; vamluyak --help says how it is used")?;
+            Err(Failed)
+        }
     }
 }
 

@@ -1,67 +1,62 @@
 pub mod cell;
 pub mod shown;
 
-use crate::table::cell::{COLUMNS, heading, write_cell};
-use crate::table::shown::Shown;
+use crate::table::cell::{COLUMNS, Column};
 use report::failed::Failed;
-use request::request::Request;
 use std::alloc::{AllocError, Global};
-use tree::Tree;
+use std::fmt::Display;
+
+// A column, and how wide it is.
+#[derive(Clone, Copy, Debug, PartialEq)]
+struct Wide {
+    column: Column,
+    width: usize,
+}
 
 // A table whose columns are as wide as their widest cell.
 #[derive(Drop)]
 pub struct Table {
-    widths: [usize; 11],
+    columns: [Wide; 11],
     line: String,
 }
 
 impl Table {
     // As wide as the headings.
-    pub(crate) fn new(heap: Global) -> Table {
-        let mut widths = [0; 11];
-        for (column, width) in COLUMNS.iter().zip(widths.iter_mut()) {
-            *width = heading(*column).len();
-        }
-        let line = String::new(heap);
-        Table { widths, line }
+    pub(crate) fn new(heap: Global) -> Result<Table, AllocError> {
+        let mut table = Table {
+            columns: COLUMNS.map(|column| Wide { column, width: 0 }),
+            line: String::new(heap),
+        };
+        table.widen(|column| column)?;
+        Ok(table)
     }
 
-    // Makes room for a row.
-    pub(crate) fn widen<T: Tree>(
+    // Makes room for a line.
+    pub(crate) fn widen<D: Display + Drop, F: Fn(Column) -> D + Drop>(
         &mut self,
-        request: &Request,
-        tree: &T,
-        shown: &Shown,
-    ) -> Result<(), Failed> {
-        for (column, width) in COLUMNS.iter().zip(self.widths.iter_mut()) {
+        cell: F,
+    ) -> Result<(), AllocError>
+        requires { F.IsAlwaysCallable cell }
+    {
+        for Wide { column, width } in &mut self.columns {
             self.line.clear();
-            write_cell(&mut self.line, *column, request, tree, shown)?;
+            write!(self.line, "{}", cell(*column))?;
             *width = self.line.len().max(*width);
         }
         Ok(())
     }
 
-    pub(crate) fn print_heading(&mut self, rt: &HostRuntime) -> Result<(), Failed> {
-        self.line.clear();
-        for (column, width) in COLUMNS.iter().zip(self.widths.iter()) {
-            let end = self.line.len().saturating_add(*width);
-            self.line.push_str(heading(*column))?;
-            pad(&mut self.line, end)?;
-        }
-        Ok(rt.println(self.line.as_str().trim_end())?)
-    }
-
-    pub(crate) fn print<T: Tree>(
+    pub(crate) fn print<D: Display + Drop, F: Fn(Column) -> D + Drop>(
         &mut self,
         rt: &HostRuntime,
-        request: &Request,
-        tree: &T,
-        shown: &Shown,
-    ) -> Result<(), Failed> {
+        cell: F,
+    ) -> Result<(), Failed>
+        requires { F.IsAlwaysCallable cell }
+    {
         self.line.clear();
-        for (column, width) in COLUMNS.iter().zip(self.widths.iter()) {
+        for Wide { column, width } in &self.columns {
             let end = self.line.len().saturating_add(*width);
-            write_cell(&mut self.line, *column, request, tree, shown)?;
+            write!(self.line, "{}", cell(*column))?;
             pad(&mut self.line, end)?;
         }
         Ok(rt.println(self.line.as_str().trim_end())?)

@@ -1,5 +1,5 @@
 #![tactic(auto)]
 
 pub mod fault;
-pub mod field;
+pub mod reader;
 pub mod span;

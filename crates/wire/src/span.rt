@@ -2,7 +2,7 @@ ghost use Rattle.std.specs.Prelude.{◌≡◌};
 ghost use Rattle.wire.specs.Span.{part as part_of};
 
 // Some items in a row, from `first` on, `count` of them.
-#[derive(Clone, Copy)]
+#[derive(Clone, Copy, Debug, PartialEq)]
 pub struct Span {
     pub first: usize,
     pub count: usize,

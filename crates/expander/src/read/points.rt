@@ -1,18 +1,24 @@
-use crate::content::{Condition, Line, Rule};
+use crate::content::{Condition, Line, Point, Rule};
 use crate::error::Unread;
+use crate::expand::PointFile;
 use crate::input::Input;
 use crate::read::request::read_attribute;
 use model::decision::Decision;
 use std::alloc::Global;
 
-pub(crate) fn read_rules(heap: Global, bytes: &[u8]) -> Result<Vec<Rule>, Unread> {
+pub(crate) fn read_point(heap: Global, file: &PointFile) -> Result<Point, Unread> {
+    match file {
+        PointFile::Rules(bytes) => Ok(Point::Rules(read_rules(heap, bytes.as_slice())?)),
+        PointFile::Grants(bytes) => Ok(Point::Grants(read_grants(heap, bytes.as_slice())?)),
+    }
+}
+
+fn read_rules(heap: Global, bytes: &[u8]) -> Result<Vec<Rule>, Unread> {
     let mut input = Input::new(bytes);
     let count = input.number(1, 64)?;
-    let mut rules = Vec::new(heap);
-    for _ in 0..count {
-        let rule = read_rule(heap, &mut input)?;
-        rules.push(rule)?;
-    }
+    let rules = (0..count)
+        .map(|_| -> Result<Rule, Unread> { read_rule(heap, &mut input) })
+        .try_collect(heap)?;
     input.end()?;
     Ok(rules)
 }
@@ -25,33 +31,34 @@ fn read_rule(heap: Global, input: &mut Input) -> Result<Rule, Unread> {
         Decision::Deny
     };
     let count = if map == 1 { input.number(1, 4)? } else { 0 };
-    let mut conditions = Vec::new(heap);
-    for _ in 0..count {
-        let map = input.number(0, 7)?;
-        let category = input.number(1, 255)?;
-        let attribute = read_attribute(heap, input, map)?;
-        conditions.push(Condition {
-            category,
-            attribute,
-        })?;
-    }
+    let conditions = (0..count)
+        .map(|_| -> Result<Condition, Unread> { read_condition(heap, input) })
+        .try_collect(heap)?;
     Ok(Rule { effect, conditions })
 }
 
-pub(crate) fn read_grants(heap: Global, bytes: &[u8]) -> Result<Vec<Line>, Unread> {
+fn read_condition(heap: Global, input: &mut Input) -> Result<Condition, Unread> {
+    let map = input.number(0, 7)?;
+    Ok(Condition {
+        category: input.number(1, 255)?,
+        attribute: read_attribute(heap, input, map)?,
+    })
+}
+
+fn read_grants(heap: Global, bytes: &[u8]) -> Result<Vec<Line>, Unread> {
     let mut input = Input::new(bytes);
     let count = input.wide(1024)?;
-    let mut lines = Vec::new(heap);
-    for _ in 0..count {
-        let subject = input.text(heap, 1, 64)?;
-        let action = input.text(heap, 1, 64)?;
-        let resource = input.text(heap, 1, 64)?;
-        lines.push(Line {
-            subject,
-            action,
-            resource,
-        })?;
-    }
+    let lines = (0..count)
+        .map(|_| -> Result<Line, Unread> { read_line(heap, &mut input) })
+        .try_collect(heap)?;
     input.end()?;
     Ok(lines)
+}
+
+fn read_line(heap: Global, input: &mut Input) -> Result<Line, Unread> {
+    Ok(Line {
+        subject: input.text(heap, 1, 64)?,
+        action: input.text(heap, 1, 64)?,
+        resource: input.text(heap, 1, 64)?,
+    })
 }

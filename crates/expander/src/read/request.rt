@@ -41,12 +41,7 @@ fn read_elements(heap: Global, input: &mut Input) -> Result<Vec<Element>, Unread
 
 // The number of the element that carries a tag.
 pub(crate) fn tagged(elements: &[Element], tag: u8) -> Option<usize> {
-    for number in 0..elements.len() {
-        if elements[number].tag == Some(tag) {
-            return Some(number);
-        }
-    }
-    None
+    elements.iter().position(|element| element.tag == Some(tag))
 }
 
 fn read_element(heap: Global, input: &mut Input) -> Result<Element, Unread> {
@@ -58,12 +53,12 @@ fn read_element(heap: Global, input: &mut Input) -> Result<Element, Unread> {
         None
     };
     let count = if map & 2 != 0 { input.number(1, 8)? } else { 0 };
-    let mut attributes = Vec::new(heap);
-    for _ in 0..count {
-        let map = input.number(0, 7)?;
-        let attribute = read_attribute(heap, input, map)?;
-        attributes.push(attribute)?;
-    }
+    let attributes = (0..count)
+        .map(|_| -> Result<Attribute, Unread> {
+            let map = input.number(0, 7)?;
+            read_attribute(heap, input, map)
+        })
+        .try_collect(heap)?;
     Ok(Element {
         category,
         tag,
@@ -100,20 +95,14 @@ pub(crate) fn read_attribute(
 
 fn read_references(heap: Global, input: &mut Input) -> Result<Vec<Vec<u8>>, Unread> {
     let count = input.number(1, 16)?;
-    let mut references = Vec::new(heap);
-    for _ in 0..count {
-        let tags = read_tags(heap, input)?;
-        references.push(tags)?;
-    }
-    Ok(references)
+    (0..count)
+        .map(|_| -> Result<Vec<u8>, Unread> { read_tags(heap, input) })
+        .try_collect(heap)
 }
 
 fn read_tags(heap: Global, input: &mut Input) -> Result<Vec<u8>, Unread> {
     let count = input.number(1, 16)?;
-    let mut tags = Vec::new(heap);
-    for _ in 0..count {
-        let tag = input.number(1, 255)?;
-        tags.push(tag)?;
-    }
-    Ok(tags)
+    (0..count)
+        .map(|_| -> Result<u8, Unread> { input.number(1, 255) })
+        .try_collect(heap)
 }

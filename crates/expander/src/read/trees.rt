@@ -1,9 +1,17 @@
 use crate::content::{Graph, Link};
 use crate::error::Unread;
+use crate::expand::TreeFile;
 use crate::input::Input;
-use std::alloc::Global;
+use std::alloc::{AllocError, Global};
 
-pub(crate) fn read_linked(heap: Global, bytes: &[u8]) -> Result<Graph, Unread> {
+pub(crate) fn read_tree(heap: Global, file: &TreeFile) -> Result<Graph, Unread> {
+    match file {
+        TreeFile::Linked(bytes) => read_linked(heap, bytes.as_slice()),
+        TreeFile::Paths(bytes) => read_paths(heap, bytes.as_slice()),
+    }
+}
+
+fn read_linked(heap: Global, bytes: &[u8]) -> Result<Graph, Unread> {
     let mut input = Input::new(bytes);
     let names = read_names(heap, &mut input)?;
     let links = read_links(heap, &mut input, names.len())?;
@@ -11,14 +19,12 @@ pub(crate) fn read_linked(heap: Global, bytes: &[u8]) -> Result<Graph, Unread> {
     Ok(Graph { names, links })
 }
 
-pub(crate) fn read_paths(heap: Global, bytes: &[u8]) -> Result<Graph, Unread> {
+fn read_paths(heap: Global, bytes: &[u8]) -> Result<Graph, Unread> {
     let mut input = Input::new(bytes);
     let names = read_names(heap, &mut input)?;
     input.end()?;
-    for name in names.as_slice() {
-        if has_empty_segment(name.as_slice()) {
-            return Err(Unread::Malformed);
-        }
+    if names.iter().any(|name| has_empty_segment(name.as_slice())) {
+        return Err(Unread::Malformed);
     }
     let links = path_links(heap, names.as_slice())?;
     Ok(Graph { names, links })
@@ -29,7 +35,7 @@ fn read_names(heap: Global, input: &mut Input) -> Result<Vec<Vec<u8>>, Unread> {
     let mut names = Vec::new(heap);
     for _ in 0..count {
         let name = input.text(heap, 1, 64)?;
-        if node_named(names.as_slice(), name.as_slice()).is_some() {
+        if names.contains(&name) {
             return Err(Unread::Malformed);
         }
         names.push(name)?;
@@ -39,46 +45,35 @@ fn read_names(heap: Global, input: &mut Input) -> Result<Vec<Vec<u8>>, Unread> {
 
 // The number of the node that has a name.
 pub(crate) fn node_named(names: &[Vec<u8>], name: &[u8]) -> Option<usize> {
-    for node in 0..names.len() {
-        if names[node].as_slice() == name {
-            return Some(node);
-        }
-    }
-    None
+    names.iter().position(|other| other.as_slice() == name)
 }
 
 fn read_links(heap: Global, input: &mut Input, nodes: usize) -> Result<Vec<Link>, Unread> {
     let count = input.wide(4096)?;
-    let mut links = Vec::new(heap);
-    for _ in 0..count {
-        let parent = input.wide(65535)?;
-        let child = input.wide(65535)?;
-        if parent >= nodes || child >= nodes {
-            return Err(Unread::Malformed);
-        }
-        links.push(Link { parent, child })?;
-    }
-    Ok(links)
+    (0..count)
+        .map(|_| -> Result<Link, Unread> {
+            let parent = input.wide(65535)?;
+            let child = input.wide(65535)?;
+            if parent >= nodes || child >= nodes {
+                return Err(Unread::Malformed);
+            }
+            Ok(Link { parent, child })
+        })
+        .try_collect(heap)
 }
 
 // At the start, at the end, or between two bytes '/'.
 fn has_empty_segment(path: &[u8]) -> bool {
-    let mut empty = true;
-    for byte in path {
-        if *byte == b'/' && empty {
-            return true;
-        }
-        empty = *byte == b'/';
-    }
-    empty
+    path.split(|byte| *byte == b'/')
+        .any(|segment| segment.is_empty())
 }
 
 // A link for each two paths of which one is the other with one more segment.
-fn path_links(heap: Global, names: &[Vec<u8>]) -> Result<Vec<Link>, Unread> {
+fn path_links(heap: Global, names: &[Vec<u8>]) -> Result<Vec<Link>, AllocError> {
     let mut links = Vec::new(heap);
-    for parent in 0..names.len() {
-        for child in 0..names.len() {
-            if is_child(names[parent].as_slice(), names[child].as_slice()) {
+    for (parent, path) in names.iter().enumerate() {
+        for (child, longer) in names.iter().enumerate() {
+            if is_child(path.as_slice(), longer.as_slice()) {
                 links.push(Link { parent, child })?;
             }
         }
@@ -87,14 +82,8 @@ fn path_links(heap: Global, names: &[Vec<u8>]) -> Result<Vec<Link>, Unread> {
 }
 
 fn is_child(parent: &[u8], child: &[u8]) -> bool {
-    let length = parent.len();
-    if child.len() <= length || &child[0..length] != parent || child[length] != b'/' {
-        return false;
-    }
-    for place in length + 1..child.len() {
-        if child[place] == b'/' {
-            return false;
-        }
-    }
-    true
+    child
+        .strip_prefix(parent)
+        .and_then(|rest| rest.strip_prefix(b"/"))
+        .is_some_and(|segment| !segment.contains(&b'/'))
 }

@@ -1,9 +1,9 @@
 use crate::text::Text;
-use crate::words;
+use crate::words::{attribute_id, data_type};
 use std::fmt;
 
 // What attributes and conditions both have.
-#[derive(Clone, Copy)]
+#[derive(Clone, Copy, Debug, PartialEq)]
 pub struct Described<'a> {
     pub id: u8,
     pub data_type: u8,
@@ -13,18 +13,12 @@ pub struct Described<'a> {
 
 impl fmt::Display for Described<'_> {
     fn fmt<W: fmt::Write>(&self, f: &mut fmt::Formatter<W>) -> fmt::Result {
-        let id = self.id;
-        let name = words::attribute_id(id);
-        write!(f, "id {id} ({name}), ")?;
-        let data_type = self.data_type;
-        let name = words::data_type(data_type);
+        let id = attribute_id(self.id);
+        let data_type = data_type(self.data_type);
         let value = Text(self.value);
-        write!(f, "type {data_type} ({name}), value {value}")?;
+        write!(f, "id {id}, type {data_type}, value {value}")?;
         match self.issuer {
-            Some(issuer) => {
-                let issuer = Text(issuer);
-                write!(f, ", issuer {issuer}")
-            }
+            Some(issuer) => write!(f, ", issuer {}", Text(issuer)),
             None => Ok(()),
         }
     }

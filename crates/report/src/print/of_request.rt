@@ -1,5 +1,5 @@
 use crate::print::described::Described;
-use crate::words;
+use crate::words::category;
 use request::content::{Attribute, Element};
 use request::request::Request;
 use std::io;
@@ -24,11 +24,10 @@ pub fn print_request(rt: &HostRuntime, request: &Request) -> io::Result<()> {
 }
 
 fn print_element(rt: &HostRuntime, number: usize, element: &Element) -> io::Result<()> {
-    let category = element.category;
-    let name = words::category(category);
+    let category = category(element.category);
     match element.tag {
-        Some(tag) => println!(rt; "element {number}: category {category} ({name}), tag {tag}"),
-        None => println!(rt; "element {number}: category {category} ({name})"),
+        Some(tag) => println!(rt; "element {number}: category {category}, tag {tag}"),
+        None => println!(rt; "element {number}: category {category}"),
     }
 }
 
@@ -42,10 +41,7 @@ fn print_attribute(
         id: attribute.id,
         data_type: attribute.data_type,
         value: request.text(attribute.value),
-        issuer: match attribute.issuer {
-            Some(issuer) => Some(request.text(issuer)),
-            None => None,
-        },
+        issuer: attribute.issuer.map(|issuer| request.text(issuer)),
     };
     let included = if attribute.included {
         ", included in results"

@@ -1,3 +1,4 @@
+use crate::console::Console;
 use crate::text::Text;
 use std::io;
 use tree::Tree;
@@ -7,6 +8,7 @@ use tree::reach::Reached;
 pub fn print_tree<T: Tree>(rt: &HostRuntime, tree: &T) -> io::Result<()> {
     let count = tree.count();
     println!(rt; "nodes: {count}")?;
+    // By number: a tree answers questions, and no slice holds its nodes.
     for node in 0..count {
         if let Some(name) = tree.name(node) {
             let name = Text(name);
@@ -24,36 +26,31 @@ fn print_children<T: Tree>(
     node: usize,
     count: usize,
 ) -> io::Result<()> {
+    let mut before = ", children ";
     let mut from = 0usize;
-    for found in 0..count {
+    // A count: a node has no more children than there are nodes.
+    for _ in 0..count {
         let Some(child) = tree.child(node, from) else {
             return Ok(());
         };
-        print!(rt; "{}", if found == 0 { ", children " } else { " " })?;
-        print!(rt; "{child}")?;
+        print!(rt; "{before}{child}")?;
+        before = " ";
         from = child.saturating_add(1);
     }
     Ok(())
 }
 
 // The nodes reached, nearest first.
-pub fn print_reached<T: Tree>(
-    rt: &HostRuntime,
-    tree: &T,
-    nodes: &[Reached],
-    tsv: bool,
-) -> io::Result<()> {
-    for reached in nodes {
-        let node = reached.node;
-        let distance = reached.distance;
+pub fn print_reached<T: Tree>(console: Console<'_>, tree: &T, nodes: &[Reached]) -> io::Result<()> {
+    for &Reached { node, distance } in nodes {
         let Some(name) = tree.name(node) else {
             continue;
         };
         let name = Text(name);
-        if tsv {
-            println!(rt; "{distance}\t{node}\t{name}")?;
+        if console.tsv {
+            println!(console.rt; "{distance}\t{node}\t{name}")?;
         } else {
-            println!(rt; "distance {distance}: node {node} {name}")?;
+            println!(console.rt; "distance {distance}: node {node} {name}")?;
         }
     }
     Ok(())

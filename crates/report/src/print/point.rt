@@ -1,6 +1,6 @@
 use crate::print::described::Described;
 use crate::text::Text;
-use crate::words;
+use crate::words::category;
 use grants::grants::Grants;
 use rule_policy::policy::RulePolicy;
 use rule_policy::rule::Condition;
@@ -10,8 +10,8 @@ pub fn print_policy(rt: &HostRuntime, policy: &RulePolicy) -> io::Result<()> {
     let count = policy.rules().len();
     println!(rt; "rules: {count}")?;
     for (number, rule) in policy.rules().iter().enumerate() {
-        let effect = words::effect(rule.effect);
-        println!(rt; "rule {number}: {effect}")?;
+        let decision = rule.effect.decision();
+        println!(rt; "rule {number}: {decision}")?;
         for (place, one) in policy.conditions(rule).iter().enumerate() {
             print_condition(rt, policy, place, one)?;
         }
@@ -25,24 +25,19 @@ fn print_condition(
     number: usize,
     condition: &Condition,
 ) -> io::Result<()> {
-    let category = condition.category;
-    let name = words::category(category);
+    let category = category(condition.category);
     let described = Described {
         id: condition.id,
         data_type: condition.data_type,
         value: policy.text(condition.value),
-        issuer: match condition.issuer {
-            Some(issuer) => Some(policy.text(issuer)),
-            None => None,
-        },
+        issuer: condition.issuer.map(|issuer| policy.text(issuer)),
     };
     let required = if condition.required {
         ", must be present"
     } else {
         ""
     };
-    print!(rt; "  condition {number}: category {category} ({name}), ")?;
-    println!(rt; "{described}{required}")
+    println!(rt; "  condition {number}: category {category}, {described}{required}")
 }
 
 pub fn print_grants(rt: &HostRuntime, grants: &Grants) -> io::Result<()> {

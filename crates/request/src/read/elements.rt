@@ -1,35 +1,35 @@
 ghost use Rattle.std.specs.Prelude.{◌≡◌, ◌+◌, ◌≤◌, IfOk, vec_len, vec_capacity};
-ghost use Rattle.model.specs.declared.item.Kind.TheVariants as kind;
-ghost use Rattle.model.specs.Layout.{within};
-ghost use Rattle.model.specs.Content.{attribute_fields, attribute_list, is_tag, carried, new_tag, element_fields, element_list};
-ghost use Rattle.wire.specs.Told.{told, Told, from, in_field, itself, always};
+ghost use Rattle.model.specs.Content.{attribute_fields, attribute_list, carried, new_tag, element_fields, element_list};
+ghost use Rattle.wire.specs.Told.{Reads, in_field, itself};
 ghost use Rattle.request.specs.Held.{attribute_of, attributes_at, element_at, elements_in, tags_held};
-ghost use Rattle.request.specs.Refused.{in_attribute, in_cause, in_element_fault, in_request_fault};
-ghost use Rattle.request.specs.Tables.{Grows, span_end, reach, element_span};
+ghost use Rattle.request.specs.Refused.{in_element_fault, in_request_fault};
+ghost use Rattle.request.specs.Tables.{Grows, span_end};
 
 use crate::content::{Attribute, Element};
-use crate::fault::{AttributeFault, ElementCause, ElementFault, RequestFault};
+use crate::fault::{ElementFault, RequestFault};
+use model::codes::STRING;
+use model::item::Kind;
 use model::refusal::Defect;
-use wire::fault::Fault;
-use wire::field;
+use wire::fault::{Fault, ItemFault};
+use wire::reader::Reader;
 use wire::span::Span;
 
-fn read_attribute(bytes: &[u8], place: &mut usize) -> Result<Attribute, Fault>
-    ensures { told in_field (attribute_of bytes.now) result bytes.now place.new ≡ from bytes.now place.old attribute_fields }
+fn read_attribute(reader: &mut Reader<'_>) -> Result<Attribute, Fault>
+    ensures { Reads in_field attribute_of reader.old result reader.new attribute_fields }
 {
-    let map = field::map(bytes, place, 0b111)?;
-    let id = field::code(bytes, place, 1, 255)?;
+    let map = reader.map(0b111)?;
+    let id = reader.code(1, 255)?;
     let data_type = if map & 1 != 0 {
-        field::code(bytes, place, 2, 255)?
+        reader.code(2, 255)?
     } else {
-        1
+        STRING
     };
     let issuer = if map & 2 != 0 {
-        Some(field::text(bytes, place, 1, 64)?)
+        Some(reader.text(1, 64)?)
     } else {
         None
     };
-    let value = field::text(bytes, place, 0, 64)?;
+    let value = reader.text(0, 64)?;
     Ok(Attribute {
         included: map & 4 != 0,
         id,
@@ -39,95 +39,61 @@ fn read_attribute(bytes: &[u8], place: &mut usize) -> Result<Attribute, Fault>
     })
 }
 
-fn numbered_attribute(
-    bytes: &[u8],
-    place: &mut usize,
-    number: u8,
-) -> Result<Attribute, AttributeFault>
-    ensures { told in_attribute (attribute_of bytes.now) result bytes.now place.new ≡ from bytes.now place.old (within kind.Attribute number attribute_fields) }
-{
-    match read_attribute(bytes, place) {
-        Ok(attribute) => Ok(attribute),
-        Err(fault) => Err(AttributeFault { number, fault }),
-    }
-}
-
 fn read_attributes(
-    bytes: &[u8],
-    place: &mut usize,
+    reader: &mut Reader<'_>,
     table: &mut Vec<Attribute>,
-) -> Result<Span, ElementCause>
+) -> Result<Span, ElementFault>
     requires { vec_len table.old + 8 ≤ vec_capacity table.old }
-    ensures read { Told in_cause (attributes_at bytes.now table.new) result bytes.now place.new (from bytes.now place.old attribute_list) }
+    ensures read { Reads in_element_fault (attributes_at table.new) reader.old result reader.new attribute_list }
     ensures grows { Grows 8 table.old table.new }
     ensures inside { IfOk result (λ s. span_end s ≤ vec_len table.new) }
 {
     let first = table.len();
-    let count = field::code(bytes, place, 1, 8)?;
+    let count = usize::from(reader.code(1, 8)?);
     for number in 0..count {
-        let attribute = numbered_attribute(bytes, place, number)?;
+        let read = read_attribute(reader);
+        let attribute = read.map_err(|fault| ItemFault::new(Kind::Attribute, number, fault))?;
         table.push_reserved(attribute);
     }
-    Ok(Span {
-        first,
-        count: count as usize,
-    })
-}
-
-fn has_tag(element: &Element, tag: u8) -> bool
-    ensures { result ≡ is_tag tag element.now.tag }
-{
-    match element.tag {
-        Some(other) => other == tag,
-        None => false,
-    }
+    Ok(Span { first, count })
 }
 
 fn is_carried(tag: u8, earlier: &[Element]) -> bool
     ensures { result ≡ carried tag (tags_held earlier.now) }
 {
-    for element in earlier {
-        if has_tag(element, tag) {
-            return true;
-        }
-    }
-    false
+    earlier.iter().any(|element| element.tag == Some(tag))
 }
 
-fn read_tag(bytes: &[u8], place: &mut usize, earlier: &[Element]) -> Result<u8, Fault>
-    ensures { told in_field itself result bytes.now place.new ≡ from bytes.now place.old (new_tag (tags_held earlier.now)) }
+fn read_tag(reader: &mut Reader<'_>, earlier: &[Element]) -> Result<u8, Fault>
+    ensures { Reads in_field itself reader.old result reader.new (new_tag (tags_held earlier.now)) }
 {
-    let tag_place = *place;
-    let tag = field::code(bytes, place, 1, 255)?;
+    let repeated = reader.fault(Defect::TagRepeated);
+    let tag = reader.code(1, 255)?;
     if is_carried(tag, earlier) {
-        return Err(Fault {
-            defect: Defect::TagRepeated,
-            place: tag_place,
-        });
+        return Err(repeated);
     }
     Ok(tag)
 }
 
 fn read_element(
-    bytes: &[u8],
-    place: &mut usize,
+    reader: &mut Reader<'_>,
     earlier: &[Element],
     table: &mut Vec<Attribute>,
-) -> Result<Element, ElementCause>
+) -> Result<Element, ElementFault>
     requires { vec_len table.old + 8 ≤ vec_capacity table.old }
-    ensures read { Told in_cause (element_at bytes.now table.new) result bytes.now place.new (from bytes.now place.old (element_fields (tags_held earlier.now))) }
+    ensures read { Reads in_element_fault (element_at table.new) reader.old result reader.new (element_fields (tags_held earlier.now)) }
     ensures grows { Grows 8 table.old table.new }
     ensures inside { IfOk result (λ e. span_end e.attributes ≤ vec_len table.new) }
 {
-    let map = field::map(bytes, place, 0b11)?;
-    let category = field::code(bytes, place, 1, 255)?;
+    let map = reader.map(0b11)?;
+    let category = reader.code(1, 255)?;
     let tag = if map & 1 != 0 {
-        Some(read_tag(bytes, place, earlier)?)
+        Some(read_tag(reader, earlier)?)
     } else {
         None
     };
     let attributes = if map & 2 != 0 {
-        read_attributes(bytes, place, table)?
+        read_attributes(reader, table)?
     } else {
         Span { first: 0, count: 0 }
     };
@@ -138,39 +104,21 @@ fn read_element(
     })
 }
 
-fn numbered_element(
-    bytes: &[u8],
-    place: &mut usize,
-    number: u8,
-    earlier: &[Element],
-    table: &mut Vec<Attribute>,
-) -> Result<Element, ElementFault>
-    requires { vec_len table.old + 8 ≤ vec_capacity table.old }
-    ensures read { Told in_element_fault (element_at bytes.now table.new) result bytes.now place.new (from bytes.now place.old (within kind.Element number (element_fields (tags_held earlier.now)))) }
-    ensures grows { Grows 8 table.old table.new }
-    ensures inside { IfOk result (λ e. span_end e.attributes ≤ vec_len table.new) }
-{
-    match read_element(bytes, place, earlier, table) {
-        Ok(element) => Ok(element),
-        Err(cause) => Err(ElementFault { number, cause }),
-    }
-}
-
 pub(crate) fn read_elements(
-    bytes: &[u8],
-    place: &mut usize,
+    reader: &mut Reader<'_>,
     list: &mut Vec<Element>,
     table: &mut Vec<Attribute>,
 ) -> Result<(), RequestFault>
     requires empty { (vec_len list.old ≡ 0) × (vec_len table.old ≡ 0) }
     requires room { (16 ≤ vec_capacity list.old) × (128 ≤ vec_capacity table.old) }
-    ensures read { Told in_request_fault (always (elements_in bytes.now list.new table.new)) result bytes.now place.new (from bytes.now place.old element_list) }
+    ensures read { Reads in_request_fault (λ bytes done. elements_in bytes list.new table.new) reader.old result reader.new element_list }
     ensures room { (vec_capacity list.new ≡ vec_capacity list.old) × (vec_capacity table.new ≡ vec_capacity table.old) }
     ensures few { vec_len list.new ≤ 16 }
 {
-    let count = field::code(bytes, place, 1, 16)?;
+    let count = usize::from(reader.code(1, 16)?);
     for number in 0..count {
-        let element = numbered_element(bytes, place, number, list.as_slice(), table)?;
+        let read = read_element(reader, list.as_slice(), table);
+        let element = read.map_err(|fault| ItemFault::new(Kind::Element, number, fault))?;
         list.push_reserved(element);
     }
     Ok(())

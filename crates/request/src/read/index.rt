@@ -9,7 +9,7 @@ use crate::index::Index;
 use crate::read::elements::read_elements;
 use crate::read::references::read_references;
 use std::alloc::{AllocError, Global};
-use wire::field;
+use wire::reader::Reader;
 
 impl Index {
     pub(crate) fn new(heap: Global) -> Result<Index, AllocError>
@@ -43,18 +43,18 @@ impl Index {
         ensures { Answers in_request_fault (index_of bytes.now self.new) result (read_request bytes.now) }
     {
         self.clear();
-        let mut place = 0;
-        let map = field::map(bytes, &mut place, 0b11)?;
+        let mut reader = Reader::new(bytes);
+        let map = reader.map(0b11)?;
         self.combined = map & 1 != 0;
         self.referenced = map & 2 != 0;
-        if map & 1 != 0 {
-            field::code(bytes, &mut place, 1, 1)?;
+        if self.combined {
+            reader.code(1, 1)?;
         }
-        read_elements(bytes, &mut place, &mut self.elements, &mut self.attributes)?;
-        if map & 2 != 0 {
-            read_references(bytes, &mut place, &mut self.references, &mut self.tags)?;
+        read_elements(&mut reader, &mut self.elements, &mut self.attributes)?;
+        if self.referenced {
+            read_references(&mut reader, &mut self.references, &mut self.tags)?;
         }
-        field::end(bytes, place)?;
+        reader.end()?;
         Ok(())
     }
 }

@@ -1,7 +1,7 @@
-ghost use Rattle.std.specs.Prelude.{◌≡◌, ℕ, ◌<◌, ◌≤◌, false, ◌||◌, [], ◌++◌, drop, replicate, IfOk, slice_index_or};
+ghost use Rattle.std.specs.Prelude.{◌≡◌, ℕ, ◌<◌, ◌≤◌, false, ◌||◌, [], ◌++◌, replicate, IfOk, slice_index_or};
 ghost use Rattle.model.specs.Lists.{upto, any, keep};
 ghost use Rattle.model.specs.Tree.{count as node_count, reached};
-ghost use Rattle.tree.specs.Reached.{extent_of, farthest_of, nodes_reached, all_at, fresh};
+ghost use Rattle.tree.specs.Reached.{extent_of, farthest_of, nodes_reached, all_at, fresh, Marked};
 ghost use Rattle.tree.specs.Reaches.{Reaches};
 
 use crate::Tree;
@@ -11,12 +11,22 @@ use crate::reach::{Reach, Reached};
 use std::alloc::{AllocError, Global};
 
 fn mark_children<T: Tree>(tree: &T, node: usize, found: &mut Marks)
-    ensures { (k : ℕ) → k < 1024 → slice_index_or found.new.on k false ≡ (slice_index_or found.old.on k false || (T.meaning tree.now).linked node k) }
+    ensures { Marked 1024 found.old.on found.new.on ((T.meaning tree.now).linked node) }
 {
     let mut from = 0;
+    // Child by child, as a tree answers: each question gives the next, or none.
     while let Some(child) = tree.child(node, from) {
         found.set(child);
         from = child + 1;
+    }
+}
+
+// The children of a level's nodes are found.
+fn spread<T: Tree>(tree: &T, level: &[Reached], found: &mut Marks)
+    ensures { Marked 1024 found.old.on found.new.on (λ k. any (λ m. (T.meaning tree.now).linked m k) (nodes_reached level.now)) }
+{
+    for reached in level {
+        mark_children(tree, reached.node, found);
     }
 }
 
@@ -62,26 +72,15 @@ impl Reach {
     fn gather(&mut self, count: usize, distance: usize)
         requires { count ≤ 1024 }
         ensures nodes { self.new.nodes.items ≡ self.old.nodes.items ++ all_at distance (keep (fresh self.old.found.on self.old.seen.on) (upto 0 count)) }
-        ensures seen { (k : ℕ) → k < count → slice_index_or self.new.seen.on k false ≡ (slice_index_or self.old.seen.on k false || slice_index_or self.old.found.on k false) }
+        ensures seen { Marked count self.old.seen.on self.new.seen.on (λ k. slice_index_or self.old.found.on k false) }
         ensures found { self.new.found.on ≡ self.old.found.on }
     {
+        // By number: the marks tell of numbers, and no slice holds the nodes.
         for node in 0..count {
             if self.found.is_set(node) && !self.seen.is_set(node) {
                 self.seen.set(node);
                 self.nodes.push_reserved(Reached { node, distance });
             }
-        }
-    }
-
-    // The children of the nodes from `start` on are found.
-    fn spread<T: Tree>(&mut self, tree: &T, start: usize)
-        ensures nodes { self.new.nodes.items ≡ self.old.nodes.items }
-        ensures seen { self.new.seen.on ≡ self.old.seen.on }
-        ensures found { (k : ℕ) → k < 1024 → slice_index_or self.new.found.on k false ≡ (slice_index_or self.old.found.on k false || any (λ m. (T.meaning tree.now).linked m k) (nodes_reached (drop start self.old.nodes.items))) }
-    {
-        for i in start..self.nodes.len() {
-            let node = self.nodes[i].node;
-            mark_children(tree, node, &mut self.found);
         }
     }
 
@@ -98,7 +97,7 @@ impl Reach {
         let mut start = 0;
         for distance in 0..farthest(extent, count) {
             let end = self.nodes.len();
-            self.spread(tree, start);
+            spread(tree, &self.nodes[start..], &mut self.found);
             self.gather(count, distance + 1);
             if self.nodes.len() == end {
                 return;

@@ -1,26 +1,11 @@
-use crate::line::{Number, Positions};
-use crate::table::shown::{Shown, value};
-use model::decision::Cause;
+use crate::line::{OrDash, Positions};
+use crate::table::shown::Shown;
+use model::codes::{ACTION, ACTION_ID, RESOURCE, RESOURCE_ID, SUBJECT, SUBJECT_ID};
 use report::text::Text;
-use report::words;
-use request::request::Request;
-use std::alloc::AllocError;
+use std::fmt;
 use tree::Tree;
 
-// Categories, and the ids of the attributes that say who, does what, to which.
-const RESOURCE: u8 = 1;
-
-const SUBJECT: u8 = 2;
-
-const ACTION: u8 = 3;
-
-const RESOURCE_ID: u8 = 1;
-
-const SUBJECT_ID: u8 = 3;
-
-const ACTION_ID: u8 = 4;
-
-#[derive(Clone, Copy)]
+#[derive(Clone, Copy, Debug, PartialEq)]
 pub enum Column {
     Number,
     Reference,
@@ -49,75 +34,55 @@ pub(crate) const COLUMNS: [Column; 11] = [
     Column::Place,
 ];
 
-pub(crate) fn heading(column: Column) -> &'static str {
-    match column {
-        Column::Number => "row",
-        Column::Reference => "reference",
-        Column::Choice => "choice",
-        Column::Subject => "subject",
-        Column::Action => "action",
-        Column::Resource => "resource",
-        Column::Node => "node",
-        Column::Decision => "decision",
-        Column::Status => "status",
-        Column::Cause => "cause",
-        Column::Place => "place",
+// The heading.
+impl fmt::Display for Column {
+    fn fmt<W: fmt::Write>(&self, f: &mut fmt::Formatter<W>) -> fmt::Result {
+        f.write_str(match self {
+            Column::Number => "row",
+            Column::Reference => "reference",
+            Column::Choice => "choice",
+            Column::Subject => "subject",
+            Column::Action => "action",
+            Column::Resource => "resource",
+            Column::Node => "node",
+            Column::Decision => "decision",
+            Column::Status => "status",
+            Column::Cause => "cause",
+            Column::Place => "place",
+        })
     }
 }
 
-fn write_text(line: &mut String, text: Option<&[u8]>) -> Result<(), AllocError> {
-    match text {
-        Some(text) => {
-            let text = Text(text);
-            write!(line, "{text}")
+// What a row has in a column.
+#[derive(Clone, Copy)]
+pub struct Cell<'s, 'a, T> {
+    pub(crate) shown: &'s Shown<'s, 'a, T>,
+    pub(crate) column: Column,
+}
+
+impl<T: Tree> fmt::Display for Cell<'_, '_, T> {
+    fn fmt<W: fmt::Write>(&self, f: &mut fmt::Formatter<W>) -> fmt::Result {
+        let shown = self.shown;
+        let row = shown.row;
+        match self.column {
+            Column::Number => write!(f, "{} of {}", shown.number, shown.total),
+            Column::Reference => write!(f, "{}", row.reference),
+            Column::Choice => write!(f, "{}", OrDash(row.choice.map(|few| Positions(few)))),
+            Column::Subject => write_text(f, shown.value(SUBJECT, SUBJECT_ID)),
+            Column::Action => write_text(f, shown.value(ACTION, ACTION_ID)),
+            Column::Resource => write_text(f, shown.value(RESOURCE, RESOURCE_ID)),
+            Column::Node => write_text(f, row.node.and_then(|node| shown.tree.name(node))),
+            Column::Decision => write!(f, "{}", row.decision),
+            Column::Status => write!(f, "{}", row.status),
+            Column::Cause => match row.cause {
+                Some(cause) => write!(f, "{} {cause}", cause.number()),
+                None => f.write_char('-'),
+            },
+            Column::Place => write!(f, "{}", row.place),
         }
-        None => line.push('-'),
     }
 }
 
-fn write_cause(line: &mut String, cause: Option<Cause>) -> Result<(), AllocError> {
-    match cause {
-        Some(cause) => {
-            let number = cause.number();
-            let why = words::cause(cause);
-            write!(line, "{number} {why}")
-        }
-        None => line.push('-'),
-    }
-}
-
-// Writes what a row has in a column.
-pub(crate) fn write_cell<T: Tree>(
-    line: &mut String,
-    column: Column,
-    request: &Request,
-    tree: &T,
-    shown: &Shown,
-) -> Result<(), AllocError> {
-    let row = shown.row;
-    let elements = &shown.elements;
-    match column {
-        Column::Number => write_number(line, shown.number, shown.total),
-        Column::Reference => write!(line, "{}", Number(Some(row.reference))),
-        Column::Choice => write!(line, "{}", Positions(row.choice)),
-        Column::Subject => write_text(line, value(request, elements, SUBJECT, SUBJECT_ID)),
-        Column::Action => write_text(line, value(request, elements, ACTION, ACTION_ID)),
-        Column::Resource => write_text(line, value(request, elements, RESOURCE, RESOURCE_ID)),
-        Column::Node => write_node(line, tree, row.node),
-        Column::Decision => line.push_str(words::decision(row.decision)),
-        Column::Status => line.push_str(words::status(row.status)),
-        Column::Cause => write_cause(line, row.cause),
-        Column::Place => write!(line, "{}", Number(Some(usize::from(row.place)))),
-    }
-}
-
-fn write_node<T: Tree>(line: &mut String, tree: &T, node: Option<usize>) -> Result<(), AllocError> {
-    match node {
-        Some(node) => write_text(line, tree.name(node)),
-        None => line.push('-'),
-    }
-}
-
-fn write_number(line: &mut String, number: u64, total: u64) -> Result<(), AllocError> {
-    write!(line, "{number} of {total}")
+fn write_text<W: fmt::Write>(f: &mut fmt::Formatter<W>, text: Option<&[u8]>) -> fmt::Result {
+    write!(f, "{}", OrDash(text.map(|text| Text(text))))
 }

@@ -1,16 +1,6 @@
-use Rattle.std.proofs.Common.{◌<◌, length, None, sym, arith, rules}
-use Rattle.request.specs.declared.content.Element.{Element}
-use Rattle.expansion.proofs.Codes.{code_here, code_past}
+use Rattle.std.proofs.Common.{rules}
+use Rattle.expansion.proofs.Codes.{code_got}
 use Rattle.expansion.proofs.categories.category.Goals as goal
 
-abbrev blank : Element
-blank = record { category = 0; tag = None; attributes = record { first = 0; count = 0 } }
-
-pub returns-then-number-elements : goal.returns-then-number-elements
-returns-then-number-elements c = sym (code_past c.args.elements.now c.args.number c.if-number-elements.true)
-
 pub returns : goal.returns
-returns c =
-    let h : c.args.number < length c.args.elements.now = omega arith in
-    let e = code_here c.args.elements.now c.args.number blank h in
-    search (rules, e)
+returns c = let a = c.get.ensures.lookup in code_got c.args.elements.now c.from.result c.args.number c.get.result c.map_or.result c.from.ensures a.3 (search rules)

@@ -4,4 +4,4 @@ use Rattle.expansion.specs.Categories.{firsts}
 use Rattle.expansion.proofs.categories.firsts.Given as goal
 
 abbrev pub invariant-loop-code : goal.invariant-loop-code
-invariant-loop-code l = (held l.seen ++ firsts (held l.seen) (drop l.code-index l.codes) ≡ firsts [] l.codes) × (length (held l.seen) ≤ l.code-index)
+invariant-loop-code l = (held l.seen ++ firsts (held l.seen) (drop l.code-index l.code-items) ≡ firsts [] l.code-items) × (length (held l.seen) ≤ l.code-index)

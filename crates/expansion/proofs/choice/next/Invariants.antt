@@ -10,6 +10,3 @@ invariant-loop-i l =
     (next_choice (drop l.i l.widths) (drop l.i l.positions) ≡ None)
     × (held l.next ≡ cleared l.i l.positions)
     × (l.i ≤ length l.widths)
-
-abbrev pub decreases-loop-i : goal.decreases-loop-i
-decreases-loop-i l = l.i

@@ -1,5 +1,4 @@
-use Rattle.std.proofs.Common.{◌≡◌, [], ◌∷◌, ◌++◌, length, sym, ap, ◌∙◌, arith}
-use Rattle.model.specs.Lists.{upto}
+use Rattle.std.proofs.Common.{[], ◌∷◌, ◌++◌, length, sym, ap, ◌∙◌, arith}
 use Rattle.expansion.proofs.Fews.{length_upto, upto_push}
 use Rattle.expansion.proofs.list.all_below.Goals as goal
 
@@ -8,6 +7,3 @@ push-requires c = omega (arith, ap length c.loop-number.invariant, length_upto 0
 
 pub loop-number-preserved : goal.loop-number-preserved
 loop-number-preserved c = c.push.ensures ∙ ap (λ l. l ++ c.loop-number.number ∷ []) c.loop-number.invariant ∙ sym (upto_push c.loop-number.number)
-
-pub returns : goal.returns
-returns c = let e : c.loop-number.number ≡ c.args.count = omega arith in c.loop-number.invariant ∙ ap (upto 0) e

@@ -1,61 +1,46 @@
-use Rattle.std.proofs.Common.{◌<◌, length, get_or, sym, ap, ◌∙◌, arith}
+use Rattle.std.proofs.Common.{◌≡◌, ◌<◌, length, get_or, sym, ap, ◌∙◌, arith}
+use Rattle.std.specs.Option.{ok_or}
 use Rattle.std.proofs.lemmas.List.{length_push}
-use Rattle.model.specs.Rows.{all_listed, listing}
+use Rattle.std.proofs.lemmas.Result.{err_from_is_err_and}
+use Rattle.model.specs.Rows.{unknown}
 use Rattle.request.specs.Place.{content_of}
 use Rattle.single.specs.Numbers.{past}
+use Rattle.expansion.specs.declared.listing.UnknownTag.{UnknownTag}
 use Rattle.expansion.specs.Few.{held}
-use Rattle.expansion.specs.Listed.{listed_of}
+use Rattle.expansion.specs.Listed.{listing_of}
 use Rattle.expansion.proofs.Fews.{past_push}
-use Rattle.expansion.proofs.Naming.{onto, first_below, shown_length, one_unknown, one_listed, all_tags, onto_none, few_shown}
+use Rattle.expansion.proofs.Naming.{position_below, shown_length, one_unknown, one_listed}
 use Rattle.expansion.proofs.list.with_tags.Goals as goal
 
-pub number_with-requires : goal.number_with-requires
-number_with-requires c = few_shown c.args.request.now c.elements-elements.result.now c.elements-elements.ensures
-
-pub loop-position-init : goal.loop-position-init
-loop-position-init c =
+pub returns-in_err-number-clause-lists : goal.returns-in_err-number-clause-lists
+returns-in_err-number-clause-lists c =
     let p = c.args.request.now in
-    let e = c.new-listed.ensures in
-    let all = listing (all_listed (content_of p)) 0 c.args.tags.now in (
-      ap (λ l. onto (listed_of (content_of p).elements l) all) e ∙ onto_none all,
-      ap length e,
-      omega (arith, ap past e),
-    )
-
-pub returns-in_default : goal.returns-in_default
-returns-in_default c =
-    let p = c.args.request.now in
-    let h : c.loop-position.position < length c.args.tags.now = omega arith in
-    record {
-      lists = sym (one_unknown p.bytes.now p.index.attributes.items c.elements-elements.result.now (content_of p).elements c.elements-elements.ensures c.args.tags.now c.loop-position.position h (held c.loop-position.listed) c.in_default.ensures) ∙ c.loop-position.invariant.0;
-      names = tt;
-    }
-
-pub push-requires : goal.push-requires
-push-requires c = omega (arith, c.requires, c.loop-position.invariant.1)
+    let es = (content_of p).elements in
+    let i = c.loop-position.position in
+    let h : i < length c.args.tags.now = omega arith in
+    let told = c.in_err-number.ensures {u = tt} in
+    let error : UnknownTag = record { position = i } in
+    let q = err_from_is_err_and c.from_residual.result c.from_residual.ensures.1 in
+    let told_error = told.value ∙ ap (λ o. ok_or o error) told.ok_part in
+    let same : c.in_err-number.field-0.0 ≡ error = cc in
+    ap (listing_of es) q.1
+    ∙ ap (λ (u : UnknownTag). unknown u.position) (q.2 ∙ same)
+    ∙ sym (one_unknown p.bytes.now p.index.attributes.items c.elements-elements.result.now es c.elements-elements.ensures c.args.tags.now i h (held c.loop-position.listed) (sym told.ok_part ∙ c.number_with.ensures))
+    ∙ c.loop-position.invariant.0
 
 pub loop-position-preserved : goal.loop-position-preserved
 loop-position-preserved c =
     let p = c.args.request.now in
     let hs = c.elements-elements.result.now in
     let es = (content_of p).elements in
-    let k = c.in-Some.number in
+    let k = c.in_ok-number.number in
     let i = c.loop-position.position in
+    let listed = held c.loop-position.listed in
     let h : i < length c.args.tags.now = omega arith in
-    let a = c.in-Some.ensures in
-    let b = first_below 0 (get_or c.args.tags.now i 0) hs k (sym a) in
+    let a = sym (c.in_ok-number.ensures {u = tt}).ok_part ∙ c.number_with.ensures in
     let n = shown_length p.bytes.now p.index.attributes.items hs es c.elements-elements.ensures in
-    let low : k < length es = omega (arith, b, n) in
-    let q = past_push (held c.loop-position.listed) k (length es) c.loop-position.invariant.2 low in (
-      sym (one_listed p.bytes.now p.index.attributes.items hs es c.elements-elements.ensures c.args.tags.now i h (held c.loop-position.listed) (held c.push.new.self) k a c.push.ensures) ∙ c.loop-position.invariant.0,
-      omega (arith, ap length c.push.ensures, length_push (held c.loop-position.listed) k, c.loop-position.invariant.1),
-      omega (arith, ap past c.push.ensures, q),
+    let low : k < length es = omega (arith, position_below (get_or c.args.tags.now i 0) hs k a, n) in (
+      sym (one_listed p.bytes.now p.index.attributes.items hs es c.elements-elements.ensures c.args.tags.now i h listed (held c.push.new.self) k a c.push.ensures) ∙ c.loop-position.invariant.0,
+      omega (arith, ap length c.push.ensures, length_push listed k, c.loop-position.invariant.1),
+      omega (arith, ap past c.push.ensures, past_push listed k (length es) c.loop-position.invariant.2 low),
     )
-
-pub returns : goal.returns
-returns c =
-    let p = c.args.request.now in
-    record {
-      lists = sym (all_tags p.bytes.now p.index.attributes.items c.elements-elements.result.now (content_of p).elements c.elements-elements.ensures c.args.tags.now c.loop-position.position (held c.loop-position.listed) (omega arith)) ∙ c.loop-position.invariant.0;
-      names = c.loop-position.invariant.2;
-    }

@@ -1,4 +1,4 @@
-use Rattle.std.proofs.Common.{◌≡◌, ◌+◌, ◌-◌, ◌++◌, length, drop}
+use Rattle.std.proofs.Common.{◌≡◌, ◌+◌, ◌++◌, drop}
 use Rattle.model.specs.PointFiles.{in_category, values}
 use Rattle.single.specs.Single.{content, attributes_at}
 use Rattle.grants.specs.Found.{given as given_by, found_in}
@@ -10,10 +10,7 @@ invariant-loop-j l =
     gather (found_in l.request l.found) (values_left l.id (drop l.j (attributes_at (content l.request) l.i) ++ in_category l.category (drop (l.i + 1) (content l.request))))
     ≡ given_by (values l.category l.id (content l.request))
 
-abbrev pub invariant-elements : goal.invariant-elements
-invariant-elements l =
+abbrev pub invariant-loop-i : goal.invariant-loop-i
+invariant-loop-i l =
     gather (found_in l.request l.found) (values_left l.id (in_category l.category (drop l.i (content l.request))))
     ≡ given_by (values l.category l.id (content l.request))
-
-abbrev pub decreases-elements : goal.decreases-elements
-decreases-elements l = length (content l.request) - l.i

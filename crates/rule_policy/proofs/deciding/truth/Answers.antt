@@ -5,9 +5,9 @@ use Rattle.single.specs.Single.{content, attributes_at}
 use Rattle.single.proofs.Places.{nth_none}
 use Rattle.single.proofs.Categories.{category_passed, category_entered}
 use Rattle.rule_policy.specs.Held.{condition_of}
-use Rattle.rule_policy.proofs.Judging.{judge, judge_end, left_unknown, left_compared, left_optional, turn_skip, turn_met, turn_compared}
+use Rattle.rule_policy.proofs.Judging.{judge, turn_skip, turn_met, turn_compared}
 use Rattle.rule_policy.proofs.deciding.truth.Goals as goal
-use Rattle.rule_policy.proofs.deciding.truth.Goals.{then-compares+else-same_bytes, else-compares, then-has_category+else-loop-j-test, else-has_category, else-condition-via-then-condition+else-not-compared, else-condition-via-else-condition}
+use Rattle.rule_policy.proofs.deciding.truth.Goals.{then-compares+else-same_bytes, else-compares, then-has_category+else-loop-j-test, else-has_category}
 
 pub loop-j-init : goal.loop-j-init
 loop-j-init c =
@@ -51,23 +51,6 @@ elements-preserved c =
           ap (λ b. judge k b rest) w.compared-is
           ∙ sym (ap (judge k c.elements.compared) (category_passed es _ _ lt (sym w.if-has_category.ensures)))
           ∙ c.elements.invariant
-    ]
-
-pub returns-then-not-compared : goal.returns-then-not-compared
-returns-then-not-compared c =
-    let es = content c.args.request.now in
-    let le : length es ≤ c.elements.i = omega arith in
-    let k = condition_of c.args.texts.now c.args.condition in
-    sym (judge_end k _ es _ _ le ∙ left_unknown k _ c.if-condition.true c.if-not-compared.true) ∙ c.elements.invariant
-
-pub returns-else-condition : goal.returns-else-condition
-returns-else-condition c =
-    let es = content c.args.request.now in
-    let k = condition_of c.args.texts.now c.args.condition in
-    let le : length es ≤ c.elements.i = omega arith in
-    elim c.else-condition.branch [
-      | else-condition-via-then-condition+else-not-compared w ↦ sym (judge_end k _ es _ _ le ∙ left_compared k _ w.if-not-compared.false) ∙ c.elements.invariant
-      | else-condition-via-else-condition w ↦ sym (judge_end k _ es _ _ le ∙ left_optional k _ w.if-condition.false) ∙ c.elements.invariant
     ]
 
 pub returns-then-same_bytes : goal.returns-then-same_bytes

@@ -1,24 +1,16 @@
-use Rattle.std.proofs.Common.{Some, sym, ap, ◌∙◌}
-use Rattle.std.proofs.lemmas.List.{at_drop_all}
-use Rattle.model.specs.Lists.{nth}
-use Rattle.single.specs.Shown.{shown}
-use Rattle.single.proofs.Places.{nth_first, nth_next}
-use Rattle.single.proofs.Showing.{hidden_more, shown_more}
+use Rattle.std.proofs.Common.{◌≡◌, not, sym, ap, ◌∙◌, rules, tests}
+use Rattle.std.specs.List.{filter}
+use Rattle.std.specs.Option.{option_map}
+use Rattle.std.proofs.lemmas.Iterator.{YieldsList-from_slice}
+use Rattle.std.proofs.lemmas.Iterator.Consumers.{YieldsList-from_filter, nth_from_yields_List}
+use Rattle.request.specs.declared.content.Attribute.{Attribute}
+use Rattle.single.specs.Shown.{hidden, seen_at}
+use Rattle.single.proofs.Places.{nth_is_get, nth_map}
 use Rattle.single.proofs.shown.shown_at.Goals as goal
 
-pub loop-a-preserved-then-hidden : goal.loop-a-preserved-then-hidden
-loop-a-preserved-then-hidden c = sym (ap (λ l. nth l c.loop-a.left) (hidden_more _ _ _ _ c.loop-a-test.true (sym c.if-hidden.ensures))) ∙ c.loop-a.invariant
-
-pub returns-then-left-eq0 : goal.returns-then-left-eq0
-returns-then-left-eq0 c =
-    ap Some c.seen.ensures
-    ∙ sym (ap (λ l. nth l c.loop-a.left) (shown_more _ _ _ _ c.loop-a-test.true (sym c.if-hidden.ensures)) ∙ nth_first _ _ _ c.if-left-eq0.true)
-    ∙ c.loop-a.invariant
-
-pub loop-a-preserved : goal.loop-a-preserved
-loop-a-preserved c =
-    sym (ap (λ l. nth l c.loop-a.left) (shown_more _ _ _ _ c.loop-a-test.true (sym c.if-hidden.ensures)) ∙ nth_next _ _ _ c.if-left-eq0.false)
-    ∙ c.loop-a.invariant
-
 pub returns : goal.returns
-returns c = sym (at_drop_all (λ l. nth (shown c.args.node l) c.loop-a.left) _ _ c.loop-a-test.false) ∙ c.loop-a.invariant
+returns c =
+    let own = filter (λ (a : Attribute). not (hidden c.args.node a)) c.args.attributes.now in
+    let at = nth_from_yields_List c.nth.result c.nth.new.self c.args.number c.nth.ensures.ran (YieldsList-from_filter _ (λ a. not (hidden c.args.node a)) (YieldsList-from_slice c.args.attributes.now cc) c.filter.ensures.closure (λ x b q k. search (rules, tests))) in
+    let made : c.map.result ≡ option_map (seen_at c.args.node) (option_map (λ y. y.now) c.nth.result) = search rules in
+    made ∙ ap (option_map (seen_at c.args.node)) (at ∙ nth_is_get own c.args.number) ∙ sym (nth_map (seen_at c.args.node) own c.args.number)

@@ -1,17 +1,18 @@
-use Rattle.std.proofs.Common.{◌<◌, ◌++◌, map, length, sym, ap, ◌∙◌, subst, arith}
-use Rattle.model.specs.Rows.{resource, node_spot}
+use Rattle.std.proofs.Common.{◌<◌, ◌++◌, map, length, Ok, sym, ap, ◌∙◌, subst, arith}
+use Rattle.model.specs.Rows.{resource, scope, node_spot}
 use Rattle.model.proofs.Asked.{asked_node}
 use Rattle.tree.specs.Reached.{extent_of}
 use Rattle.request.specs.Place.{content_of}
 use Rattle.single.specs.Numbers.{numbered, past}
 use Rattle.expansion.specs.Few.{held}
+use Rattle.expansion.specs.Asked.{scope_of}
 use Rattle.expansion.specs.Listed.{listed_at, listed_of}
 use Rattle.cursor.specs.Ahead.{listed, chosen, nodes_of, of_choice, after_choices, Unmoved}
 use Rattle.cursor.proofs.Rows.{after_same, choosing_same, choice_below, reached_some}
 use Rattle.cursor.proofs.cursor.Cursor.settle.Goals as goal
 
-pub returns-in-Below : goal.returns-in-Below
-returns-in-Below g c = λ explored choosing.
+pub returns-in-Ok-Some : goal.returns-in-Ok-Some
+returns-in-Ok-Some g c = λ explored choosing.
     let tree = g.T.Tree.meaning c.args.tree.now in
     let q = content_of c.args.request.now in
     let self = c.args.self.now in
@@ -21,10 +22,10 @@ returns-in-Below g c = λ explored choosing.
     let same = choosing_same tree q self left u choosing in
     let kept = c.explore.ensures.chosen in
     let found = c.explore.ensures.reaches explored in
-    let x = extent_of c.in-Below.extent in
-    let a = c.in-Below.node in
+    let x = extent_of c.in-Ok-Some.wanted.extent in
+    let a = c.in-Ok-Some.wanted.node in
     let l = listed_at q.elements c.in-Some.element in
-    let asks = c.in-Below.ensures in
+    let asks = ap (λ o. scope_of (Ok o)) (sym c.in-Ok-Some.field-0-is) ∙ c.in-Ok-Some.ensures ∙ ap (λ k. scope tree (numbered q.elements k)) c.from.ensures in
     let within = asked_node tree (numbered q.elements c.in-Some.element) x a (sym asks) in
     let here =
     choice_below tree self.reference (listed q self) (held self.choice) (chosen q left) l x a (nodes_of left)

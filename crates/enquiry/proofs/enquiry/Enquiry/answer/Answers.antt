@@ -1,31 +1,40 @@
-use Rattle.std.proofs.Common.{◌≡◌, sym, subst}
-use Rattle.model.specs.Law.{Reply}
+use Rattle.std.proofs.Common.{◌≡◌, sym, subst, refl, rules}
+use Rattle.std.proofs.lemmas.Result.{IfOk-weaker}
+use Rattle.model.specs.Law as law
 use Rattle.model.specs.Points.{Point}
 use Rattle.model.specs.Tree.{Tree}
 use Rattle.enquiry.specs.declared.enquiry.Enquiry.{Enquiry}
 use Rattle.enquiry.specs.declared.work.Call.{Call}
-use Rattle.enquiry.specs.Calls.{Answers}
-use Rattle.enquiry.specs.Worked.{call_of}
+use Rattle.enquiry.specs.declared.work.Call.TheVariants.{Show}
+use Rattle.enquiry.specs.Calls.{Works, Answers, step_told, verdict_told}
+use Rattle.enquiry.specs.Worked.{call_of, answer_of}
 use Rattle.enquiry.proofs.enquiry.Enquiry.answer.Goals as goal
 
-this_call : (tree : Tree) (point : Point) (e : Enquiry) (a : Reply) (e' : Enquiry) (call made : Call) → call ≡ made → Answers tree point e (call_of made) a e'
-    → Answers tree point e (call_of call) a e'
-this_call tree point e a e' call made is answers = subst (λ x. Answers tree point e (call_of x) a e') (sym is) answers
+-- the call that was made is this one, and its answer is told so
+this_call : (tree : Tree) (point : Point) (e : Enquiry) (e' : Enquiry) (call made : Call) (a told : law.Reply) → call ≡ made → told ≡ a → Answers tree point e (call_of made) a e'
+    → Answers tree point e (call_of call) told e'
+this_call tree point e e' call made a told is same answers = subst (λ x. Answers tree point e (call_of call) x e') (sym same) (subst (λ x. Answers tree point e (call_of x) a e') (sym is) answers)
 
-pub returns-in-Ok : goal.returns-in-Ok
-returns-in-Ok g c = λ standing. this_call _ _ _ _ _ _ _ c.in-Step.is (c.in-Ok.ensures standing)
+pub returns-in-Step : goal.returns-in-Step
+returns-in-Step g c = λ standing.
+    let told : answer_of c.map.result ≡ step_told c.step.result = search rules in
+    this_call _ _ _ _ _ _ _ _ c.in-Step.is told (c.step.ensures standing)
 
-pub returns-in-Err : goal.returns-in-Err
-returns-in-Err g c = λ standing. this_call _ _ _ _ _ _ _ c.in-Step.is (c.in-Err.ensures standing)
-
-pub returns-in_ok-reply-in-Show : goal.returns-in_ok-reply-in-Show
-returns-in_ok-reply-in-Show g c = λ standing. this_call _ _ _ _ _ _ _ c.in-Show.is (c.in_ok-reply-in-Show.ensures _ standing)
+pub returns-in-Show : goal.returns-in-Show
+returns-in-Show g c =
+    let tree = g.T.Tree.meaning c.args.tree.now in
+    let point = g.P.DecisionPoint.answer c.args.point.now in
+    let self = c.args.self.now in
+    IfOk-weaker c.show_zeros.result
+    (λ answer. (p : Point) → Works tree p self (call_of (Show c.in-Show.size)) (answer_of answer) self)
+    (λ answer. Works tree point self (call_of c.args.call) (answer_of answer) self)
+    (λ answer works standing. this_call tree point self self c.args.call (Show c.in-Show.size) _ _ c.in-Show.is refl (works point standing))
+    c.show_zeros.ensures
 
 pub returns-in-Rewind : goal.returns-in-Rewind
-returns-in-Rewind g c = λ standing. this_call _ _ _ _ _ _ _ c.in-Rewind.is (c.rewind.ensures _ standing)
+returns-in-Rewind g c = λ standing. this_call _ _ _ _ _ _ _ _ c.in-Rewind.is refl (c.rewind.ensures _ standing)
 
-pub returns-in-Ok-verdict : goal.returns-in-Ok-verdict
-returns-in-Ok-verdict g c = λ standing. this_call _ _ _ _ _ _ _ c.in-Verdict.is (c.in-Ok-verdict.ensures _ _ standing)
-
-pub returns-in-Err-verdict : goal.returns-in-Err-verdict
-returns-in-Err-verdict g c = λ standing. this_call _ _ _ _ _ _ _ c.in-Verdict.is (c.in-Err-verdict.ensures _ _ standing)
+pub returns-in-Verdict : goal.returns-in-Verdict
+returns-in-Verdict g c = λ standing.
+    let told : answer_of c.map-in-Verdict.result ≡ verdict_told c.verdict.result = search rules in
+    this_call _ _ _ _ _ _ _ _ c.in-Verdict.is told (c.verdict.ensures _ _ standing)

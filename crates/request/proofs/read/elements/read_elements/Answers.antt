@@ -1,45 +1,36 @@
-use Rattle.std.proofs.Common.{refl, arith, rules}
-use Rattle.std.proofs.lemmas.List.{nil_from_length}
-use Rattle.wire.proofs.Left.{one_less}
-use Rattle.wire.proofs.Exits.{told_refused}
-use Rattle.wire.specs.Told.{always}
-use Rattle.request.proofs.Tables.{elements_push, reach_push, tags_same}
+use Rattle.std.proofs.Common.{◌≡◌, drop, arith, rules}
+use Rattle.model.specs.Content.{one_element}
+use Rattle.model.specs.Layout.{got}
+use Rattle.wire.specs.Told.{from}
+use Rattle.wire.proofs.Left.{one_less, left_more}
+use Rattle.request.specs.Held.{element_at, elements_in}
 use Rattle.request.specs.Tables.{element_span}
-use Rattle.request.specs.Refused.{in_request_fault}
-use Rattle.request.specs.Held.{elements_in}
-use Rattle.request.specs.declared.fault.RequestFault.TheVariants.{Field, Element}
+use Rattle.request.proofs.Tables.{elements_push, reach_push, tags_same}
 use Rattle.request.proofs.read.elements.read_elements.Goals as goal
 
-pub returns-in_err-count : goal.returns-in_err-count
-returns-in_err-count c =
-    let e = c.in_err-count.ensures.read in
-    record {
-      read = told_refused in_request_fault (always (elements_in c.args.bytes.now c.args.list.now c.args.table.now)) (Field c.in_err-count.field-0.0) c.args.bytes.now c.code.new.place _ c.from_residual.result c.from_residual.ensures.1 (search (rules, e));
-      room = (refl, refl);
-      few = omega arith;
-    }
-
-pub loop-number-init : goal.loop-number-init
-loop-number-init c = let n = nil_from_length c.args.list.now.items (omega arith) in search (rules, n)
-
-pub returns-in_err-element : goal.returns-in_err-element
-returns-in_err-element c =
-    let e = c.in_err-element.ensures.read in
+pub returns-in_err-element-clause-read : goal.returns-in_err-element-clause-read
+returns-in_err-element-clause-read c =
     let v = c.as_slice.ensures.value in
-    let t = tags_same c.args.bytes.now c.loop-number.table.items c.loop-number.list.items in
-    record {
-      read = told_refused in_request_fault (always (elements_in c.args.bytes.now c.loop-number.list c.numbered_element.new.table)) (Element c.in_err-element.field-0.0) c.args.bytes.now c.numbered_element.new.place _ c.from_residual-in_err-element.result c.from_residual-in_err-element.ensures.1 (search (rules, one_less, e, t, v));
-      room = search rules;
-      few = omega (arith, c.in_ok-count.ensures.high);
-    }
+    let t = tags_same c.code.new.self.bytes.now c.loop-number.table.items c.loop-number.list.items in
+    search (rules, one_less, v, t)
 
 pub loop-number-preserved : goal.loop-number-preserved
 loop-number-preserved c =
-    let o = c.in_ok-element.ensures in
+    let k = c.loop-number.invariant in
+    let n = c.loop-number.number-counter in
+    let bytes = c.code.new.self.bytes.now in
+    let o = c.read_element-read.ensures in
     let i = c.push_reserved.ensures.items in
-    let r = o.read in
+    let x = c.in_ok-element.element in
+    let t = c.loop-number.table in
+    let u = c.read_element-read.new.table in
+    let after = c.read_element-read.new.reader in
     let v = c.as_slice.ensures.value in
-    let t = tags_same c.args.bytes.now c.loop-number.table.items c.loop-number.list.items in
-    let e = elements_push c.args.bytes.now 8 c.loop-number.list c.push_reserved.new.self c.loop-number.table c.numbered_element.new.table c.in_ok-element.element o.grows c.loop-number.invariant.3 i in
-    let k = reach_push element_span c.loop-number.list c.push_reserved.new.self c.loop-number.table.len c.numbered_element.new.table.len c.in_ok-element.element c.loop-number.invariant.3 o.grows.low o.inside i in
-    (search (rules, one_less, e, t, r, v), omega arith, omega arith, k, search rules, search rules)
+    let s = tags_same bytes t.items c.loop-number.list.items in
+    let held = elements_in bytes c.loop-number.list t in
+    let one = element_at u bytes x in
+    let r : got one after.place (drop after.place after.bytes.now) ≡ from c.loop-number.reader (one_element n held) = search (rules, v, s) in
+    let m = elements_push bytes 8 c.loop-number.list c.push_reserved.new.self t u x o.grows k.3 i in
+    let l = left_more one_element c.from-count.result n held (elements_in bytes c.push_reserved.new.self u) c.code.new.self c.loop-number.reader after one k.0 (omega arith) m o.read.same r in
+    let e = reach_push element_span c.loop-number.list c.push_reserved.new.self t.len u.len x k.3 o.grows.low (search rules) i in
+    (l, omega arith, omega arith, e, search rules, search rules)

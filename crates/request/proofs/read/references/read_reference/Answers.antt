@@ -1,33 +1,25 @@
-use Rattle.std.proofs.Common.{◌≡◌, arith, rules}
-use Rattle.std.proofs.lemmas.Result.{IfOk-from_err}
-use Rattle.wire.proofs.Exits.{told_refused}
-use Rattle.wire.specs.Told.{in_field}
-use Rattle.wire.proofs.Left.{one_less}
-use Rattle.request.proofs.Tables.{added_none, part_added, grows_none, grows_more, grows_push, added_push}
-use Rattle.request.specs.Held.{tags_at}
+use Rattle.std.proofs.Common.{◌≡◌, drop, arith, rules}
+use Rattle.model.specs.Content.{one_tag}
+use Rattle.model.specs.Layout.{got}
+use Rattle.wire.specs.Told.{from}
+use Rattle.wire.proofs.Left.{one_less, left_more}
+use Rattle.request.specs.Tables.{added}
+use Rattle.request.proofs.Tables.{grows_push, added_push}
 use Rattle.request.proofs.read.references.read_reference.Goals as goal
 
-pub returns-in_err-count : goal.returns-in_err-count
-returns-in_err-count c =
-    let e = c.in_err-count.ensures.read in
-    record { read = told_refused in_field (tags_at c.args.table.now) c.in_err-count.field-0.0 c.args.bytes.now c.code.new.place _ c.from_residual.result c.from_residual.ensures.1 (search (rules, e)); grows = grows_none 16 c.args.table.now; inside = IfOk-from_err _ _ c.from_residual.ensures.0; few = IfOk-from_err _ _ c.from_residual.ensures.0 }
-
-pub loop-number-init : goal.loop-number-init
-loop-number-init c = let e = added_none c.args.table.now in (search (rules, e), grows_none 0 c.args.table.now, omega arith)
-
-pub returns-in_err-tag : goal.returns-in_err-tag
-returns-in_err-tag c = search (rules, one_less, grows_more)
+pub returns-in_err-tag-clause-read : goal.returns-in_err-tag-clause-read
+returns-in_err-tag-clause-read c = search (rules, one_less)
 
 pub loop-number-preserved : goal.loop-number-preserved
 loop-number-preserved c =
-    let g = c.loop-number.invariant.1 in
+    let k = c.loop-number.invariant in
+    let i = c.loop-number._number in
+    let t = c.args.table.now in
+    let u = c.push_reserved.new.self in
     let p = c.push_reserved.ensures in
-    let e = added_push c.loop-number._number c.args.table.now c.loop-number.table c.push_reserved.new.self c.in_ok-tag.tag g p.items p.len p.capacity in
-    let k = grows_push c.loop-number._number c.args.table.now c.loop-number.table c.push_reserved.new.self c.in_ok-tag.tag g p.items p.len p.capacity in
-    (search (rules, one_less, e), k, omega arith)
-
-pub returns : goal.returns
-returns c =
-    let n : c.loop-number._number ≡ c.in_ok-count.count = omega arith in
-    let p = part_added c.args.table.now c.loop-number.table c.loop-number._number c.loop-number.invariant.2 in
-    search (rules, grows_more, p, n)
+    let held = added t c.loop-number.table in
+    let after = c.code-in-loop-number.new.self in
+    let r : got c.in_ok-tag.tag after.place (drop after.place after.bytes.now) ≡ from c.loop-number.reader (one_tag i held) = search rules in
+    let m = added_push i t c.loop-number.table u c.in_ok-tag.tag k.1 p.items p.len p.capacity in
+    let l = left_more one_tag c.from-count.result i held (added t u) c.code.new.self c.loop-number.reader after c.in_ok-tag.tag k.0 (omega arith) m c.code-in-loop-number.ensures.read.same r in
+    (l, grows_push i t c.loop-number.table u c.in_ok-tag.tag k.1 p.items p.len p.capacity, omega arith)

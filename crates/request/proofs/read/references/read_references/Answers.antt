@@ -1,42 +1,30 @@
-use Rattle.std.proofs.Common.{refl, arith, rules}
-use Rattle.std.proofs.lemmas.List.{nil_from_length}
-use Rattle.wire.proofs.Left.{one_less}
-use Rattle.wire.proofs.Exits.{told_refused}
-use Rattle.wire.specs.Told.{always}
-use Rattle.request.proofs.Tables.{references_push, reach_push, longest_push, longest_none}
+use Rattle.std.proofs.Common.{◌≡◌, drop, arith, rules}
+use Rattle.model.specs.Content.{one_reference}
+use Rattle.model.specs.Layout.{got}
+use Rattle.wire.specs.Told.{from}
+use Rattle.wire.proofs.Left.{one_less, left_more}
+use Rattle.request.specs.Held.{tags_at, references_in}
 use Rattle.request.specs.Tables.{whole_span}
-use Rattle.request.specs.Refused.{in_request_fault}
-use Rattle.request.specs.Held.{references_in}
-use Rattle.request.specs.declared.fault.RequestFault.TheVariants.{Field, Reference}
+use Rattle.request.proofs.Tables.{references_push, reach_push, longest_push}
 use Rattle.request.proofs.read.references.read_references.Goals as goal
 
-pub returns-in_err-count : goal.returns-in_err-count
-returns-in_err-count c =
-    let e = c.in_err-count.ensures.read in
-    record {
-      read = told_refused in_request_fault (always (references_in c.args.list.now c.args.table.now)) (Field c.in_err-count.field-0.0) c.args.bytes.now c.code.new.place _ c.from_residual.result c.from_residual.ensures.1 (search (rules, e));
-      room = (refl, refl);
-      few = longest_none c.args.list.now (omega arith);
-    }
-
-pub loop-number-init : goal.loop-number-init
-loop-number-init c = let n = nil_from_length c.args.list.now.items (omega arith) in let w = longest_none c.args.list.now (omega arith) in search (rules, n, w)
-
-pub returns-in_err-span : goal.returns-in_err-span
-returns-in_err-span c =
-    let e = c.in_err-span.ensures.read in
-    record {
-      read = told_refused in_request_fault (always (references_in c.loop-number.list c.numbered_reference.new.table)) (Reference c.in_err-span.field-0.0) c.args.bytes.now c.numbered_reference.new.place _ c.from_residual-in_err-span.result c.from_residual-in_err-span.ensures.1 (search (rules, one_less, e));
-      room = search rules;
-      few = c.loop-number.invariant.6;
-    }
+pub returns-in_err-span-clause-read : goal.returns-in_err-span-clause-read
+returns-in_err-span-clause-read c = search (rules, one_less)
 
 pub loop-number-preserved : goal.loop-number-preserved
 loop-number-preserved c =
-    let o = c.in_ok-span.ensures in
+    let k = c.loop-number.invariant in
+    let n = c.loop-number.number-counter in
+    let o = c.read_reference.ensures in
     let i = c.push_reserved.ensures.items in
-    let r = o.read in
-    let e = references_push 16 c.loop-number.list c.push_reserved.new.self c.loop-number.table c.numbered_reference.new.table c.in_ok-span.span o.grows c.loop-number.invariant.3 i in
-    let k = reach_push whole_span c.loop-number.list c.push_reserved.new.self c.loop-number.table.len c.numbered_reference.new.table.len c.in_ok-span.span c.loop-number.invariant.3 o.grows.low o.inside i in
-    let w = longest_push c.loop-number.list c.push_reserved.new.self c.in_ok-span.span c.loop-number.invariant.6 o.few i in
-    (search (rules, one_less, e, r), omega arith, omega arith, k, search rules, search rules, w)
+    let x = c.in_ok-span.span in
+    let t = c.loop-number.table in
+    let u = c.read_reference.new.table in
+    let after = c.read_reference.new.reader in
+    let held = references_in c.loop-number.list t in
+    let r : got (tags_at u x) after.place (drop after.place after.bytes.now) ≡ from c.loop-number.reader (one_reference n held) = search rules in
+    let m = references_push 16 c.loop-number.list c.push_reserved.new.self t u x o.grows k.3 i in
+    let l = left_more one_reference c.from-count.result n held (references_in c.push_reserved.new.self u) c.code.new.self c.loop-number.reader after (tags_at u x) k.0 (omega arith) m o.read.same r in
+    let e = reach_push whole_span c.loop-number.list c.push_reserved.new.self t.len u.len x k.3 o.grows.low (search rules) i in
+    let w = longest_push c.loop-number.list c.push_reserved.new.self x k.6 (search rules) i in
+    (l, omega arith, omega arith, e, search rules, search rules, w)

@@ -1,35 +1,30 @@
-use Rattle.std.proofs.Common.{◌≡◌, arith, rules}
+use Rattle.std.proofs.Common.{◌≡◌, drop, ap, ◌∙◌, arith, rules}
 use Rattle.std.proofs.lemmas.List.{map_push}
-use Rattle.std.proofs.lemmas.Result.{IfOk-from_err}
-use Rattle.wire.proofs.Exits.{told_refused}
-use Rattle.wire.proofs.Left.{one_less}
-use Rattle.request.proofs.Tables.{added_none, part_added, grows_none, grows_more, grows_push, added_push}
-use Rattle.rule_policy.specs.Refused.{in_cause}
-use Rattle.rule_policy.specs.Held.{conditions_at}
-use Rattle.rule_policy.specs.declared.fault.RuleCause.TheVariants.{Field}
+use Rattle.model.specs.PointFiles.{one_condition}
+use Rattle.model.specs.Layout.{got}
+use Rattle.wire.specs.Told.{from}
+use Rattle.wire.proofs.Left.{one_less, left_more}
+use Rattle.request.specs.Tables.{added}
+use Rattle.request.proofs.Tables.{grows_push, added_push}
+use Rattle.rule_policy.specs.Held.{condition_of, conditions_of}
 use Rattle.rule_policy.proofs.read.rules.read_conditions.Goals as goal
 
-pub returns-in_err-count : goal.returns-in_err-count
-returns-in_err-count c =
-    let e = c.in_err-count.ensures.read in
-    record { read = told_refused in_cause (conditions_at c.args.bytes.now c.args.table.now) (Field c.in_err-count.field-0.0) c.args.bytes.now c.code.new.place _ c.from_residual.result c.from_residual.ensures.1 (search (rules, e)); grows = grows_none 4 c.args.table.now; inside = IfOk-from_err _ _ c.from_residual.ensures.0 }
-
-pub loop-number-init : goal.loop-number-init
-loop-number-init c = let e = added_none c.args.table.now in (search (rules, e), grows_none 0 c.args.table.now, omega arith)
-
-pub returns-in_err-condition : goal.returns-in_err-condition
-returns-in_err-condition c = search (rules, one_less, grows_more)
+pub returns-in_err-condition-clause-read : goal.returns-in_err-condition-clause-read
+returns-in_err-condition-clause-read c = search (rules, one_less)
 
 pub loop-number-preserved : goal.loop-number-preserved
 loop-number-preserved c =
-    let g = c.loop-number.invariant.1 in
+    let k = c.loop-number.invariant in
+    let i = c.loop-number.number-counter in
+    let t = c.args.table.now in
+    let u = c.push_reserved.new.self in
+    let x = c.in_ok-condition.condition in
     let p = c.push_reserved.ensures in
-    let e = added_push c.loop-number.number c.args.table.now c.loop-number.table c.push_reserved.new.self c.in_ok-condition.condition g p.items p.len p.capacity in
-    let k = grows_push c.loop-number.number c.args.table.now c.loop-number.table c.push_reserved.new.self c.in_ok-condition.condition g p.items p.len p.capacity in
-    (search (rules, one_less, map_push, e), k, omega arith)
-
-pub returns : goal.returns
-returns c =
-    let n : c.loop-number.number ≡ c.in_ok-count.count = omega arith in
-    let p = part_added c.args.table.now c.loop-number.table c.loop-number.number c.loop-number.invariant.2 in
-    search (rules, grows_more, p, n)
+    let of = conditions_of c.code.new.self.bytes.now in
+    let one = condition_of c.code.new.self.bytes.now in
+    let held = of (added t c.loop-number.table) in
+    let after = c.read_condition-read.new.reader in
+    let r : got (one x) after.place (drop after.place after.bytes.now) ≡ from c.loop-number.reader (one_condition i held) = search rules in
+    let m = ap of (added_push i t c.loop-number.table u x k.1 p.items p.len p.capacity) ∙ map_push one (added t c.loop-number.table) x in
+    let l = left_more one_condition c.from-count.result i held (of (added t u)) c.code.new.self c.loop-number.reader after (one x) k.0 (omega arith) m c.read_condition-read.ensures.same r in
+    (l, grows_push i t c.loop-number.table u x k.1 p.items p.len p.capacity, omega arith)

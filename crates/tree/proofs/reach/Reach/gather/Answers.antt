@@ -1,7 +1,7 @@
-use Rattle.std.proofs.Common.{◌+◌, ◌<◌, vec_items, count_by, sym, ap, ◌∙◌, subst, arith}
+use Rattle.std.proofs.Common.{◌+◌, ◌<◌, vec_items, sym, subst, arith}
 use Rattle.std.proofs.lemmas.Bool.{and_left, and_right, not_from_true}
 use Rattle.tree.specs.declared.reach.Reach.{Reach}
-use Rattle.tree.proofs.Gather.{Gathered, one_more, room_left, gathered_yes, gathered_no}
+use Rattle.tree.proofs.Gather.{Gathered, room_left, gathered_yes, gathered_no}
 use Rattle.tree.proofs.reach.Reach.gather.Goals as goal
 use Rattle.tree.proofs.reach.Reach.gather.Goals.{then-is_set+then-not-is_set, else-is_set, else-is_set-via-then-is_set+else-not-is_set, else-is_set-via-else-is_set}
 
@@ -9,12 +9,6 @@ pub push_reserved-requires : goal.push_reserved-requires
 push_reserved-requires c =
     let low : c.loop-node.node < 1024 = omega arith in
     omega (arith, room_left c.loop-node.self.seen.on c.loop-node.node c.loop-node.self.seen.full low (sym c.if-not-is_set.ensures))
-
-pub invariant_of-self : goal.invariant_of-self
-invariant_of-self c =
-    let low : c.loop-node.node < 1024 = omega arith in
-    let more = one_more c.loop-node.self.seen.on c.loop-node.node c.loop-node.self.seen.full low (sym c.if-not-is_set.ensures) in
-    record { room = omega arith; counted = c.push_reserved.ensures.len ∙ ap (λ n. n + 1) c.loop-node.self.counted ∙ sym more ∙ ap (count_by (λ b. b)) (sym c.set.ensures) }
 
 pub loop-node-preserved : goal.loop-node-preserved
 loop-node-preserved c =
