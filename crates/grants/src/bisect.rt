@@ -6,6 +6,7 @@ ghost use Rattle.grants.specs.Texts.{texts_line, table_lines};
 use crate::line::Line;
 use crate::table::Table;
 use crate::texts::Texts;
+use wire::search::search_by;
 use wire::span::part;
 
 impl Line {
@@ -35,7 +36,6 @@ impl<'t> Table<'t> {
     pub fn place_of(&self, asked: &Texts<'_>) -> Result<usize, usize>
         ensures { Placed (table_lines self.now) self.now.order.now (texts_line asked.now) result }
     {
-        self.order
-            .binary_search_by(|&number| self.texts(number).cmp(asked))
+        search_by(self.order, |&number| self.texts(number).cmp(asked))
     }
 }

@@ -1,6 +1,6 @@
 -- What a loop over items has read, and what is left of it. Assumes nothing.
 use Rattle.std.proofs.Common.{◌≡◌, ℕ, suc, ◌+◌, ◌-◌, ◌<◌, List, [], ◌∷◌, ◌++◌, drop, sym, ap, ◌∙◌, arith}
-use Rattle.model.specs.Layout.{Reader, Reading, got, on, more, many}
+use Rattle.model.specs.Layout.{Reader, got, on, more, many}
 use Rattle.wire.specs.declared.reader.Reader.{Reader as Stand}
 use Rattle.wire.specs.Told.{from}
 

@@ -2,4 +2,5 @@
 
 pub mod fault;
 pub mod reader;
+pub mod search;
 pub mod span;

@@ -10,6 +10,6 @@ pub returns : goal.returns
 returns c =
     let table = c.args.self.now in
     let q = texts_line c.args.asked.now in
-    let facts = c.binary_search_by.ensures in
+    let facts = c.search_by.ensures in
     searched (table_lines table) table.order.now table.indexed q _ facts.bound
     (facts.position (λ n. compared (get_or (table_lines table) n no_line) q) (always_returns_same _ _ _ (λ a r g called. search rules)))
