@@ -52,3 +52,7 @@ module _ (s : SingleRequest) (id i j : ℕ) (a : Seen) (rest : List Attribute) (
       gather_more s f a (values_left id left)
       ∙ sym (ap (λ l. gather (found_in s f) (map value_of l)) (cond-true _ _ _ (eq-eqb _ _ e)))
       ∙ turn
+
+  -- the second one ends the search
+  pub find_again : (g : Only Seen) → g ≡ one_more f a → g ≡ Several → a.id ≡ id → found_in s g ≡ t
+  find_again g e several i = ap (found_in s) several ∙ ap (λ h. gather (found_in s h) (values_left id left)) (sym several ∙ e) ∙ find_taken i

@@ -31,6 +31,9 @@ fn find(request: &SingleRequest<'_, '_, '_>, category: u8, id: u8) -> Only<Seen>
                 };
                 if attribute.id == id {
                     found = found.and(attribute);
+                    if let Only::Several = found {
+                        return found;
+                    }
                 }
             }
         }

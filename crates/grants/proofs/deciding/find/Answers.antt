@@ -5,9 +5,9 @@ use Rattle.single.specs.Single.{content, attributes_at}
 use Rattle.single.proofs.Places.{nth_none}
 use Rattle.single.proofs.Categories.{category_passed, category_entered}
 use Rattle.grants.specs.Found.{found_in}
-use Rattle.grants.proofs.Granting.{gather, values_left, find_skip, find_taken}
+use Rattle.grants.proofs.Granting.{gather, values_left, find_skip, find_taken, find_again}
 use Rattle.grants.proofs.deciding.find.Goals as goal
-use Rattle.grants.proofs.deciding.find.Goals.{then-attribute-id, else-attribute-id, then-has_category+else-loop-j-test, else-has_category}
+use Rattle.grants.proofs.deciding.find.Goals.{then-attribute-id+in_default-found, else-attribute-id, then-has_category+else-loop-j-test, else-has_category}
 
 pub loop-j-init : goal.loop-j-init
 loop-j-init c =
@@ -25,13 +25,19 @@ loop-j-preserved c =
     let rest = in_category c.args.category (drop (c.loop-i.i + 1) (content s)) in
     let left = drop (c.loop-j.j + 1) (attributes_at (content s) c.loop-i.i) ++ rest in
     elim c.if-attribute-id.branch [
-      | then-attribute-id w ↦
+      | then-attribute-id+in_default-found w ↦
           ap (λ f. gather (found_in s f) (values_left c.args.id left)) (w.found-is ∙ w.and-found.ensures)
           ∙ find_taken s _ c.loop-i.i c.loop-j.j c.in-Some.attribute rest c.in-Some.ensures _ _ c.loop-j.invariant w.if-attribute-id.true
       | else-attribute-id w ↦
           ap (λ f. gather (found_in s f) (values_left c.args.id left)) w.found-is
           ∙ find_skip s _ c.loop-i.i c.loop-j.j c.in-Some.attribute rest c.in-Some.ensures _ _ c.loop-j.invariant w.if-attribute-id.false
     ]
+
+pub returns-in-Several : goal.returns-in-Several
+returns-in-Several c =
+    let s = c.args.request.now in
+    let rest = in_category c.args.category (drop (c.loop-i.i + 1) (content s)) in
+    find_again s _ c.loop-i.i c.loop-j.j c.in-Some.attribute rest c.in-Some.ensures _ _ c.loop-j.invariant _ c.and-found.ensures c.in-Several.is c.if-attribute-id.true
 
 pub loop-i-preserved : goal.loop-i-preserved
 loop-i-preserved c =
