@@ -2,6 +2,7 @@ ghost use Rattle.std.specs.Prelude.{◌≡◌, ◌≤◌, vec_len, vec_capacity}
 ghost use Rattle.tree_files.specs.Names.{texts_of, Named, InsideOf, Ascending, Complete};
 
 use std::alloc::{AllocError, Global};
+use wire::search::search_by;
 use wire::span::{Span, part};
 
 // The names of a tree, with room for what the longest file holds.
@@ -83,8 +84,7 @@ impl<'a> Names<'a> {
     pub(crate) fn place_of(&self, name: &[u8]) -> Result<usize, usize>
         ensures { Placed (texts_in self.now) self.now.order.items name.now result }
     {
-        self.order
-            .binary_search_by(|node| self.text(*node).cmp(&name))
+        search_by(&self.order, |node| self.text(*node).cmp(&name))
     }
 
     // The node with this name.

@@ -11,8 +11,8 @@ returns c =
     let n = c.args.self.now in
     let t = c.args.name.now in
     let ord : ℕ → Ordering = λ i. compared (get_or (texts_in n) i []) t in
-    let r = c.binary_search_by.result in
+    let r = c.search_by.result in
     let is = c.deref.ensures.value in
     placed (texts_in n) (vec_items n.order) (indexed n) t r
-    (subst (λ l. IsSearchInRange r (length l)) is c.binary_search_by.ensures.bound)
-    (subst (λ l. IsBinarySearchResult ord l r) is (c.binary_search_by.ensures.position ord (always_returns_same _ _ _ (λ a r f q. search rules))))
+    (subst (λ l. IsSearchInRange r (length l)) is c.search_by.ensures.bound)
+    (subst (λ l. IsBinarySearchResult ord l r) is (c.search_by.ensures.position ord (always_returns_same _ _ _ (λ a r f q. search rules))))
