@@ -33,46 +33,54 @@ fn generated(
     Ok(tally)
 }
 
+fn say(rt: &HostRuntime, what: &str, holds: bool) -> anyhow::Result<()> {
+    let word = if holds { "yes" } else { "NO" };
+    println!(rt; "{what}: {word}")?;
+    Ok(())
+}
+
 fn tell(rt: &HostRuntime, what: &str, tally: Tally) -> anyhow::Result<()> {
     println!(rt; "{what}: {tally}")?;
     Ok(())
 }
 
+// Each is told before the next is worked: where memory ends, what was found before it has been printed.
 fn worked_cases(rt: &HostRuntime, heap: Global) -> anyhow::Result<()> {
-    let cases = [
-        (
-            "a value of 64 bytes is read",
-            worked::value_is_read(heap, 64)?,
-        ),
-        (
-            "a value of 65 bytes is refused",
-            worked::value_is_refused(heap, 65)?,
-        ),
-        (
-            "scope descendants is cause 43",
-            worked::small_letters_are_no_scope(heap)?,
-        ),
-        (
-            "rows Permit and NotApplicable: verdict Deny",
-            worked::mixed_rows_are_denied(heap)?,
-        ),
-        (
-            "caught: a bad reference that silences the good ones",
-            worked::catches_silence(heap)?,
-        ),
-        (
-            "caught: descent by a common beginning of paths",
-            worked::catches_beginnings(heap)?,
-        ),
-        (
-            "caught: a rule that stops at an Indeterminate condition",
-            worked::catches_stopping(heap)?,
-        ),
-    ];
-    for (what, holds) in cases {
-        println!(rt; "{what}: {}", if holds { "yes" } else { "NO" })?;
-    }
-    Ok(())
+    say(
+        rt,
+        "a value of 64 bytes is read",
+        worked::value_is_read(heap, 64)?,
+    )?;
+    say(
+        rt,
+        "a value of 65 bytes is refused",
+        worked::value_is_refused(heap, 65)?,
+    )?;
+    say(
+        rt,
+        "scope descendants is cause 43",
+        worked::small_letters_are_no_scope(heap)?,
+    )?;
+    say(
+        rt,
+        "rows Permit and NotApplicable: verdict Deny",
+        worked::mixed_rows_are_denied(heap)?,
+    )?;
+    say(
+        rt,
+        "caught: a bad reference that silences the good ones",
+        worked::catches_silence(heap)?,
+    )?;
+    say(
+        rt,
+        "caught: descent by a common beginning of paths",
+        worked::catches_beginnings(heap)?,
+    )?;
+    say(
+        rt,
+        "caught: a rule that stops at an Indeterminate condition",
+        worked::catches_stopping(heap)?,
+    )
 }
 
 fn main(rt: HostRuntime) -> anyhow::Result<()> {
