@@ -64,8 +64,10 @@ fn read_links(heap: Global, input: &mut Input, nodes: usize) -> Result<Vec<Link>
 
 // At the start, at the end, or between two bytes '/'.
 fn has_empty_segment(path: &[u8]) -> bool {
-    path.split(|byte| *byte == b'/')
-        .any(|segment| segment.is_empty())
+    path.is_empty()
+        || path.starts_with(b"/")
+        || path.ends_with(b"/")
+        || path.windows(2).any(|pair| matches!(pair, b"//"))
 }
 
 // A link for each two paths of which one is the other with one more segment.
