@@ -3,8 +3,9 @@ use crate::error::Unread;
 use crate::expand::TreeFile;
 use crate::input::Input;
 use std::alloc::{AllocError, Global};
+use std::convert::AsSlice;
 
-pub(crate) fn read_tree(heap: Global, file: &TreeFile) -> Result<Graph, Unread> {
+pub(crate) fn read_tree<B: AsSlice<u8>>(heap: Global, file: &TreeFile<B>) -> Result<Graph, Unread> {
     match file {
         TreeFile::Linked(bytes) => read_linked(heap, bytes.as_slice()),
         TreeFile::Paths(bytes) => read_paths(heap, bytes.as_slice()),
