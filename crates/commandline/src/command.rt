@@ -1,3 +1,6 @@
+ghost use Rattle.std.specs.Prelude.{◌≡◌};
+ghost use Rattle.commandline.specs.ReadAs.{tree_kind_of, point_kind_of};
+
 use std::fmt;
 use std::str::FromStr;
 
@@ -21,6 +24,30 @@ pub enum Kind {
     Request,
     Tree(TreeKind),
     Point(PointKind),
+}
+
+// Where a tree is asked for. A file of another kind is read as a linked tree, and refused if its bytes are none.
+impl From<Kind> for TreeKind {
+    ghost from_gives = { λ k t. t ≡ tree_kind_of k };
+
+    fn from(kind: Kind) -> TreeKind {
+        match kind {
+            Kind::Tree(kind) => kind,
+            _ => TreeKind::Linked,
+        }
+    }
+}
+
+// Where a decision point is asked for. A file of another kind is read as grants, and refused if its bytes are none.
+impl From<Kind> for PointKind {
+    ghost from_gives = { λ k p. p ≡ point_kind_of k };
+
+    fn from(kind: Kind) -> PointKind {
+        match kind {
+            Kind::Point(kind) => kind,
+            _ => PointKind::Grants,
+        }
+    }
 }
 
 // A word that names no kind of file.

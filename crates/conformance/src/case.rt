@@ -4,6 +4,6 @@ use expander::expand::{PointFile, TreeFile};
 #[derive(Debug, PartialEq, Drop)]
 pub struct Case {
     pub request: Vec<u8>,
-    pub tree: TreeFile,
-    pub point: PointFile,
+    pub tree: TreeFile<Vec<u8>>,
+    pub point: PointFile<Vec<u8>>,
 }

@@ -40,27 +40,27 @@ const UNKNOWN_THEN_FALSE: [u8; 14] = *b"\x01\x01\x01\x02\x04\x02\x09\x01x\x00\x0
 // The first of the two conditions alone.
 const UNKNOWN_ALONE: [u8; 9] = *b"\x01\x01\x01\x01\x04\x02\x09\x01x";
 
-fn linked(heap: Global, bytes: &[u8]) -> Result<TreeFile, AllocError> {
+fn linked(heap: Global, bytes: &[u8]) -> Result<TreeFile<Vec<u8>>, AllocError> {
     Ok(TreeFile::Linked(Vec::from_slice(heap, bytes)?))
 }
 
-fn paths(heap: Global, bytes: &[u8]) -> Result<TreeFile, AllocError> {
+fn paths(heap: Global, bytes: &[u8]) -> Result<TreeFile<Vec<u8>>, AllocError> {
     Ok(TreeFile::Paths(Vec::from_slice(heap, bytes)?))
 }
 
-fn rules(heap: Global, bytes: &[u8]) -> Result<PointFile, AllocError> {
+fn rules(heap: Global, bytes: &[u8]) -> Result<PointFile<Vec<u8>>, AllocError> {
     Ok(PointFile::Rules(Vec::from_slice(heap, bytes)?))
 }
 
-fn grants(heap: Global, bytes: &[u8]) -> Result<PointFile, AllocError> {
+fn grants(heap: Global, bytes: &[u8]) -> Result<PointFile<Vec<u8>>, AllocError> {
     Ok(PointFile::Grants(Vec::from_slice(heap, bytes)?))
 }
 
 fn case(
     heap: Global,
     request: &[u8],
-    tree: TreeFile,
-    point: PointFile,
+    tree: TreeFile<Vec<u8>>,
+    point: PointFile<Vec<u8>>,
 ) -> Result<Case, AllocError> {
     Ok(Case {
         request: Vec::from_slice(heap, request)?,

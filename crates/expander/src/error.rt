@@ -30,9 +30,15 @@ impl From<AllocError> for ExpandError {
     }
 }
 
+impl<T: Drop> From<AllocFailed<T>> for ExpandError {
+    fn from(_refused: AllocFailed<T>) -> ExpandError {
+        ExpandError::NoMemory
+    }
+}
+
 // Why some bytes were not read.
 #[derive(Clone, Copy, Debug, PartialEq)]
-pub(crate) enum Unread {
+pub enum Unread {
     Malformed,
     NoMemory,
 }

@@ -10,19 +10,20 @@ use crate::scope::{nodes, scope_of};
 use crate::single::{individual, written};
 use model::decision::{Cause, Decision, Status};
 use std::alloc::{AllocError, Global};
+use std::convert::AsSlice;
 
-// The bytes of a tree's file, which is of one of two kinds.
-#[derive(Debug, PartialEq, Drop)]
-pub enum TreeFile {
-    Linked(Vec<u8>),
-    Paths(Vec<u8>),
+// The bytes of a tree's file, lent or owned. The file is of one of two kinds.
+#[derive(Clone, Copy, Debug, PartialEq, Drop)]
+pub enum TreeFile<B> {
+    Linked(B),
+    Paths(B),
 }
 
 // The same of a decision point's.
-#[derive(Debug, PartialEq, Drop)]
-pub enum PointFile {
-    Rules(Vec<u8>),
-    Grants(Vec<u8>),
+#[derive(Clone, Copy, Debug, PartialEq, Drop)]
+pub enum PointFile<B> {
+    Rules(B),
+    Grants(B),
 }
 
 // What was opened, and the heap that its rows are made in.
@@ -43,11 +44,11 @@ struct Choice {
 }
 
 // All rows of a request, in order.
-pub fn expand(
+pub fn expand<T: AsSlice<u8>, P: AsSlice<u8>>(
     heap: Global,
     request: &[u8],
-    tree: &TreeFile,
-    point: &PointFile,
+    tree: &TreeFile<T>,
+    point: &PointFile<P>,
 ) -> Result<Expanded, ExpandError> {
     let world = World {
         heap,

@@ -11,10 +11,10 @@ use tree_files::linked::LinkedTree;
 use tree_files::paths::PathTree;
 
 // The nodes that links lead to from the node of a name.
-pub fn below(
+pub fn below<K: Copy + Into<TreeKind>>(
     console: Console<'_>,
     name: &str,
-    source: &Source<TreeKind>,
+    source: &Source<K>,
     children: bool,
 ) -> Result<(), Failed> {
     let extent = if children {
@@ -23,7 +23,7 @@ pub fn below(
         Extent::Descendants
     };
     let file = File::read(console.rt, source.file.as_str())?;
-    match source.kind {
+    match source.kind.into() {
         TreeKind::Linked => reach::<LinkedTree<'_>>(console, &file, name, extent),
         TreeKind::Paths => reach::<PathTree<'_>>(console, &file, name, extent),
     }

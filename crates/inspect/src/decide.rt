@@ -14,14 +14,14 @@ use std::array::from_fn;
 use std::fmt;
 
 // What a decision point answers to a request that is a single one already.
-pub fn decide(
+pub fn decide<K: Copy + Into<PointKind>>(
     console: Console<'_>,
     request: &str,
-    source: &Source<PointKind>,
+    source: &Source<K>,
 ) -> Result<(), Failed> {
     let point = File::read(console.rt, source.file.as_str())?;
     let request = File::read(console.rt, request)?;
-    match source.kind {
+    match source.kind.into() {
         PointKind::Rules => ask::<RulePolicy<'_>>(console, &point, &request),
         PointKind::Grants => ask::<Grants<'_>>(console, &point, &request),
     }

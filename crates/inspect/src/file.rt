@@ -8,7 +8,7 @@ use std::{fs, io};
 #[derive(Debug, PartialEq, Drop)]
 pub struct File<'n> {
     pub name: &'n str,
-    bytes: Vec<u8>,
+    pub bytes: Vec<u8>,
 }
 
 // Why a file gives no bytes.

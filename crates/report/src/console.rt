@@ -38,7 +38,12 @@ impl Console<'_> {
     }
 
     // Why a file is refused: one line for other programs, or some for people.
-    fn print_refused(self, role: Role, file: &str, refusal: &Refusal) -> io::Result<()> {
+    fn print_refused(
+        self,
+        role: impl fmt::Display + Drop,
+        file: &str,
+        refusal: &Refusal,
+    ) -> io::Result<()> {
         let defect = refusal.defect;
         let number = defect.number();
         let place = refusal.place;
@@ -59,7 +64,12 @@ impl Console<'_> {
     }
 
     // Prints why a file is refused, and fails.
-    pub fn refuse<T>(self, role: Role, file: &str, refusal: &Refusal) -> Result<T, Failed> {
+    pub fn refuse<T>(
+        self,
+        role: impl fmt::Display + Drop,
+        file: &str,
+        refusal: &Refusal,
+    ) -> Result<T, Failed> {
         self.print_refused(role, file, refusal)?;
         Err(Failed)
     }

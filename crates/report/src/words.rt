@@ -5,8 +5,8 @@ use std::fmt;
 // A code as it stands in a file, and its name.
 #[derive(Clone, Copy, Debug, PartialEq)]
 pub struct Named {
-    code: u8,
-    name: &'static str,
+    pub code: u8,
+    pub name: &'static str,
 }
 
 impl fmt::Display for Named {

@@ -5,8 +5,12 @@ use crate::input::Input;
 use crate::read::request::read_attribute;
 use model::decision::Decision;
 use std::alloc::Global;
+use std::convert::AsSlice;
 
-pub(crate) fn read_point(heap: Global, file: &PointFile) -> Result<Point, Unread> {
+pub(crate) fn read_point<B: AsSlice<u8>>(
+    heap: Global,
+    file: &PointFile<B>,
+) -> Result<Point, Unread> {
     match file {
         PointFile::Rules(bytes) => Ok(Point::Rules(read_rules(heap, bytes.as_slice())?)),
         PointFile::Grants(bytes) => Ok(Point::Grants(read_grants(heap, bytes.as_slice())?)),

@@ -3,8 +3,9 @@ use crate::error::Unread;
 use crate::expand::TreeFile;
 use crate::input::Input;
 use std::alloc::{AllocError, Global};
+use std::convert::AsSlice;
 
-pub(crate) fn read_tree(heap: Global, file: &TreeFile) -> Result<Graph, Unread> {
+pub(crate) fn read_tree<B: AsSlice<u8>>(heap: Global, file: &TreeFile<B>) -> Result<Graph, Unread> {
     match file {
         TreeFile::Linked(bytes) => read_linked(heap, bytes.as_slice()),
         TreeFile::Paths(bytes) => read_paths(heap, bytes.as_slice()),
@@ -64,8 +65,10 @@ fn read_links(heap: Global, input: &mut Input, nodes: usize) -> Result<Vec<Link>
 
 // At the start, at the end, or between two bytes '/'.
 fn has_empty_segment(path: &[u8]) -> bool {
-    path.split(|byte| *byte == b'/')
-        .any(|segment| segment.is_empty())
+    path.is_empty()
+        || path.starts_with(b"/")
+        || path.ends_with(b"/")
+        || path.windows(2).any(|pair| matches!(pair, b"//"))
 }
 
 // A link for each two paths of which one is the other with one more segment.
