@@ -62,9 +62,9 @@ pub(crate) fn shown_count(attributes: &[Attribute], node: bool) -> usize
 pub(crate) fn shown_at(attributes: &[Attribute], node: bool, number: usize) -> Option<Seen>
     ensures { result ≡ nth (shown node attributes.now) number }
 {
-    attributes
+    let a = attributes
         .iter()
         .filter(|a| !hidden(**a, node))
-        .nth(number)
-        .map(|a| seen(*a, node))
+        .nth(number)?;
+    Some(seen(*a, node))
 }

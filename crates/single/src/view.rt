@@ -2,7 +2,6 @@ ghost use Rattle.std.specs.Prelude.{◌≡◌, map, length, take, nat_le};
 ghost use Rattle.std.specs.Option.{option_map};
 ghost use Rattle.model.specs.Lists.{nth};
 ghost use Rattle.model.specs.Rows.{bare, for_node};
-ghost use Rattle.request.specs.Held.{attributes_of_held};
 ghost use Rattle.request.specs.Place.{content_of};
 ghost use Rattle.single.specs.Numbers.{past, all_at};
 ghost use Rattle.single.specs.Single.{name_of, numbers_of, chosen_of, content, bytes_of, name_or_none, category_at, attributes_at, seen_in, is_resource_category, has_category_at};
@@ -11,7 +10,6 @@ use crate::seen::Seen;
 use crate::shown::{shown_at, shown_count};
 use crate::single::SingleRequest;
 use model::codes::RESOURCE;
-use request::content::Attribute;
 use request::request::Request;
 
 fn all_below(numbers: &[u8], elements: usize) -> bool
@@ -99,28 +97,24 @@ impl<'r, 'a, 'n> SingleRequest<'r, 'a, 'n> {
         self.name.is_some() && self.has_category(element, RESOURCE)
     }
 
-    // The attributes of an element as the request holds them; none past the last element.
-    fn held(&self, element: usize) -> &[Attribute]
-        ensures { attributes_of_held (bytes_of self.now) result.now ≡ attributes_at (chosen_of self.now) element }
-    {
-        match self.number(element) {
-            Some(number) => self.request.attributes(usize::from(number)),
-            None => &[],
-        }
-    }
-
     // How many attributes an element has; none past the last element.
     pub fn attributes(&self, element: usize) -> usize
         ensures { result ≡ length (attributes_at (content self.now) element) }
     {
-        shown_count(self.held(element), self.is_node(element))
+        let Some(number) = self.number(element) else {
+            return 0;
+        };
+        let held = self.request.attributes(usize::from(number));
+        shown_count(held, self.is_node(element))
     }
 
     // An attribute of an element, both by their numbers here.
     pub fn attribute(&self, element: usize, number: usize) -> Option<Seen>
         ensures { option_map (seen_in self.now) result ≡ nth (attributes_at (content self.now) element) number }
     {
-        shown_at(self.held(element), self.is_node(element), number)
+        let chosen = self.number(element)?;
+        let held = self.request.attributes(usize::from(chosen));
+        shown_at(held, self.is_node(element), number)
     }
 
     // The request's bytes, which hold every issuer, and every value but a node's name.
